@@ -119,7 +119,8 @@ JoinLaw =
     (genus (change k a b m) ≡ genus m ↔ keepsGenus m k a b ≡ true) ×
     (keepsGenus m k a b ≡ false → genus (change k a b m) ≡ suc (genus m))
 
--- LAW 9. Each component is a connected hypermap of its own with its own genus, and their numbers add up
+-- LAW 9. Each component is a connected hypermap of its own, with Euler's formula (Corollary 2.5) for any genus, and
+-- their numbers add up
 abbrev pub sumOverComponents : Hypermap → (Hypermap → ℕ) → ℕ
 sumOverComponents m f = sumOf (λ x. f (componentAt m x)) (leastDarts m (componentOf m))
 

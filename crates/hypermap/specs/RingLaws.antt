@@ -41,6 +41,15 @@ PlanarJordanTheorem =
     pairsDiffer (l ∷ ls) ≡ true → isPlanar m ≡ true →
     IsParted m (breakAlong (l ∷ ls) m) l ls × (isPlanar (breakAlong (l ∷ ls) m) ≡ true)
 
+-- Theorem 2.9 word for word, for 2.7 without document 01's condition, is refuted by one dart paired with itself
+abbrev pub PublishedTheorem : Type 0
+PublishedTheorem =
+    (m : Hypermap) → isHypermap m ≡ true → (l : DoubleLink) (ls : List DoubleLink) → isRing m l ls ≡ true →
+    isPlanar m ≡ true → components (breakAlong (l ∷ ls) m) ≡ suc (components m)
+
+abbrev pub LoopRefutes : Type 0
+LoopRefutes = PublishedTheorem → ⊥
+
 -- 2.7 by itself gives that the pairs differ where there are two or more
 abbrev pub LongRingsDiffer : Type 0
 LongRingsDiffer =
