@@ -40,9 +40,13 @@ differenceLowest s n h =
     (λ d e. difference (λ z. z ≤ℤ negsuc d) 3 n
     (λ b k. absurd (omega arith)) (λ b k. leZ-yes (le→leb d b (omega arith))))
 
-pub differenceHighest : (s n : ℕ) → s ≤ 3 * n → (pos s -ℤ pos n) ≤ℤ pos (2 * n)
-differenceHighest s n h =
-    difference (λ z. z ≤ℤ pos (2 * n)) s n (λ d e. leZ-yes (le→leb d (2 * n) (omega arith))) (λ d e. leZ-yes tt)
+pub differenceBelow : (s n b : ℕ) → s ≤ n + b → (pos s -ℤ pos n) ≤ℤ pos b
+differenceBelow s n b h =
+    difference (λ z. z ≤ℤ pos b) s n (λ d e. leZ-yes (le→leb d b (omega arith))) (λ d e. leZ-yes tt)
+
+pub differenceAbove : (s n b : ℕ) → n ≤ s + suc b → negsuc b ≤ℤ (pos s -ℤ pos n)
+differenceAbove s n b h =
+    difference (λ z. negsuc b ≤ℤ z) s n (λ d e. leZ-yes tt) (λ d e. leZ-yes (le→leb d b (omega arith)))
 
 pub halved : (s n c g : ℕ) → s + 2 * g ≡ 2 * c + n → (2 * c + n - s) / 2 ≡ g
 halved s n c g h = omega arith

@@ -1,0 +1,77 @@
+-- Refusals in order: what a refusal of 0 says of each stage, and how the stages of code put together give a
+-- definition's. Assumes nothing.
+use mathlib.Core.Path.{_≡_, refl, sym, _∙_}
+use mathlib.Core.Bool.{Bool, true, false, _&&_}
+use mathlib.Core.List.{List, [], _∷_}
+use Prim.Native.Nat.{ℕ, _<_}
+use native.Mathlib.Omega.{arith}
+use lib.Dec.{eqb}
+use borrow.Author.Tests.{eqb-true, eqb-false, eq-eqb, ne-eqb}
+use Rattle.hypermap.specs.Lists.{all}
+use Rattle.hypermap.proofs.Basics.Bools.{byCases}
+use Rattle.hypermap.proofs.Basics.Lists.{Mem, memHead, memTail, allMem}
+use Rattle.table.specs.Refusals.{orElse, unless, offTheTable, noTab}
+use Rattle.table.specs.Layout.{Table, isNumber, isPresent}
+use Rattle.table.specs.Commands.{presenceFault, leaves}
+
+-- 0 of both stages
+pub passed : (n m : ℕ) → orElse n m ≡ 0 → (n ≡ 0) × (m ≡ 0)
+unfolding orElse
+passed n m e = byCases (eqb n 0) (λ t. (eqb-true n 0 t, rw t at e)) (λ t. absurd (eqb-false n 0 t (rw t at e)))
+
+pub fitting : (t : Bool) (n : ℕ) → 0 < n → unless t n ≡ 0 → t ≡ true
+unfolding unless
+fitting true n p e = refl
+fitting false n p e = absurd (omega arith)
+
+-- the first stage refuses, or lets the second answer
+pub refusedFirst : (n m r : ℕ) → r ≡ n → (r ≡ 0 → ⊥) → r ≡ orElse n m
+unfolding orElse
+refusedFirst n m r e z = rw (ne-eqb n 0 (λ q. z (e ∙ q))) e
+
+pub refusedSecond : (n m k r : ℕ) → k ≡ n → k ≡ 0 → r ≡ m → r ≡ orElse n m
+unfolding orElse
+refusedSecond n m k r e z q = rw (eq-eqb n 0 (sym e ∙ z)) q
+
+-- PRESENCE of one dart and of two
+andAll : (t : Bool) → (t && true) ≡ t
+andAll true = refl
+andAll false = refl
+
+pub oneFault :
+    (w : Table) (x : ℕ) →
+    orElse (unless (isNumber w x) offTheTable) (unless (isPresent w x) noTab) ≡ presenceFault w (x ∷ [])
+unfolding presenceFault all
+oneFault w x = cc (andAll (isNumber w x), andAll (isPresent w x))
+
+pub twoFault :
+    (w : Table) (a b : ℕ) →
+    orElse (unless (isNumber w a && isNumber w b) offTheTable) (unless (isPresent w a && isPresent w b) noTab) ≡
+    presenceFault w (a ∷ b ∷ [])
+unfolding presenceFault all
+twoFault w a b = cc (andAll (isNumber w b), andAll (isPresent w b))
+
+pub namedPresent : (w : Table) (xs : List ℕ) → presenceFault w xs ≡ 0 → (x : ℕ) → Mem x xs → isPresent w x ≡ true
+unfolding presenceFault
+namedPresent w xs e =
+    allMem (isPresent w) xs
+    (fitting (all (isPresent w) xs) noTab (omega arith) (passed _ (unless (all (isPresent w) xs) noTab) e .1))
+
+pub onePresent : (w : Table) (x : ℕ) → presenceFault w (x ∷ []) ≡ 0 → isPresent w x ≡ true
+onePresent w x e = namedPresent w (x ∷ []) e x (memHead x [])
+
+pub bothPresent :
+    (w : Table) (a b : ℕ) → presenceFault w (a ∷ b ∷ []) ≡ 0 → (isPresent w a ≡ true) × (isPresent w b ≡ true)
+bothPresent w a b e = (
+  namedPresent w (a ∷ b ∷ []) e a (memHead a (b ∷ [])),
+  namedPresent w (a ∷ b ∷ []) e b (memTail b a (b ∷ []) (memHead b [])),
+)
+
+-- WHAT A COMMAND LEAVES
+pub accepted : (n r : ℕ) (v w u : Table) → r ≡ n → r ≡ 0 → u ≡ v → u ≡ leaves n v w
+unfolding leaves
+accepted n r v w u e z q = rw (eq-eqb n 0 (sym e ∙ z)) q
+
+pub refused : (n r : ℕ) (v w : Table) → r ≡ n → (r ≡ 0 → ⊥) → w ≡ leaves n v w
+unfolding leaves
+refused n r v w e z = rw (ne-eqb n 0 (λ q. z (e ∙ q)))

@@ -1,0 +1,14 @@
+pub mod Numbers
+pub mod Ranges
+pub mod Reading
+pub mod Soundness
+pub mod HalfTest
+pub mod Following
+pub mod Walking
+pub mod Seeking
+pub mod Writing
+pub mod Faults
+pub mod Filling
+pub mod Swaps
+pub mod Commands
+pub mod OnlyTables

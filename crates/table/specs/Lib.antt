@@ -1,0 +1,5 @@
+pub mod Refusals
+pub mod Layout
+pub mod Commands
+pub mod Laws
+pub mod Inner

@@ -1,0 +1,108 @@
+// Walks from dart to dart of a sound table. A walk needs no counter to end: by the law of orbits it comes home.
+ghost use mathlib.Core.Path.{_≡_};
+ghost use mathlib.Core.List.{_++_};
+ghost use lib.ListN.{length, drop};
+ghost use Rattle.hypermap.specs.Hypermap.{step as stepOf, orbitOf, sameOrbit};
+ghost use Rattle.table.specs.Layout.{wordAt, nextWord, hypermapOf};
+ghost use Rattle.table.specs.Commands.{isTogether};
+ghost use Rattle.table.specs.Inner.{SoundAt, SoundAtBoth, HasRoom, dimensionOf, kindOf};
+use crate::Dimension;
+use crate::Orbit;
+use crate::words::next_word;
+use crate::words::word;
+
+// The successor of a dart.
+pub fn next(table: &[u16], d: Dimension, x: u16) -> u16
+    requires { ⌜ SoundAt (now table) x ⌝ }
+    ensures { λ r. ⌜ r ≡ wordAt (now (table .entry)) x (nextWord (dimensionOf d)) ⌝ }
+{
+    word(table, x, next_word(d))
+}
+
+// The step of an orbit. Of a face: the edge predecessor, and then its vertex predecessor.
+pub fn step(table: &[u16], orbit: Orbit, x: u16) -> u16
+    requires { ⌜ SoundAt (now table) x ⌝ }
+    ensures { λ r. ⌜ r ≡ stepOf (hypermapOf (now (table .entry))) (kindOf orbit) x ⌝ }
+{
+    match orbit {
+        Orbit::Edge => word(table, x, 0),
+        Orbit::Vertex => word(table, x, 2),
+        Orbit::Face => word(table, word(table, x, 1), 3),
+    }
+}
+
+// Whether b lies in the orbit of a: one walk from a, until it meets b or is home.
+pub fn in_orbit(table: &[u16], orbit: Orbit, a: u16, b: u16) -> bool
+    requires { ⌜ SoundAtBoth (now table) a b ⌝ }
+    ensures { λ r. ⌜ r ≡ sameOrbit (hypermapOf (now (table .entry))) (kindOf orbit) a b ⌝ }
+{
+    let mut at = a;
+    loop {
+        if at == b {
+            return true;
+        }
+        at = step(table, orbit, at);
+        if at == a {
+            return false;
+        }
+    }
+}
+
+// The number of darts of an orbit.
+pub fn orbit_length(table: &[u16], orbit: Orbit, x: u16) -> u32
+    requires { ⌜ SoundAt (now table) x ⌝ }
+    ensures { λ r. ⌜ r ≡ length (orbitOf (hypermapOf (now (table .entry))) (kindOf orbit) x) ⌝ }
+{
+    let mut at = x;
+    let mut steps: u32 = 0;
+    loop {
+        at = step(table, orbit, at);
+        steps += 1;
+        if at == x {
+            break steps;
+        }
+    }
+}
+
+// Writes an orbit to the front of out, in walking order.
+pub fn write_orbit(table: &[u16], orbit: Orbit, x: u16, out: &mut [u16])
+    requires { ⌜ HasRoom (now table) (kindOf orbit) x (now out) ⌝ }
+    ensures { λ _. ⌜ now (out .exit) ≡ orbitOf (hypermapOf (now (table .entry))) (kindOf orbit) x ++
+        drop (length (orbitOf (hypermapOf (now (table .entry))) (kindOf orbit) x)) (now (out .entry)) ⌝ }
+{
+    let mut at = x;
+    let mut i = 0;
+    loop {
+        out[i] = at;
+        i += 1;
+        at = step(table, orbit, at);
+        if at == x {
+            return;
+        }
+    }
+}
+
+// Whether a and b lie in one edge or vertex. Walks from both in lockstep, so the cost is that of the shorter orbit.
+pub fn is_together(table: &[u16], d: Dimension, a: u16, b: u16) -> bool
+    requires { ⌜ SoundAtBoth (now table) a b ⌝ }
+    ensures { λ r. ⌜ r ≡ isTogether (now (table .entry)) (dimensionOf d) a b ⌝ }
+{
+    let mut x = a;
+    let mut y = b;
+    loop {
+        if x == b {
+            return true;
+        }
+        x = next(table, d, x);
+        if x == a {
+            return false;
+        }
+        if y == a {
+            return true;
+        }
+        y = next(table, d, y);
+        if y == b {
+            return false;
+        }
+    }
+}
