@@ -2,8 +2,10 @@
 use mathlib.Core.Path.{_≡_}
 use mathlib.Core.Logic.{_↔_}
 use mathlib.Core.Bool.{true, false}
+use mathlib.Core.List.{List, [], _∷_}
 use Prim.Native.Nat.{ℕ, _*_, _≤_}
 use lib.ListN.{length, getD}
+use Rattle.hypermap.specs.Lists.{among, distinct}
 use Rattle.hypermap.specs.Hypermap.{Dimension, Hypermap, isDart, isHypermap}
 use Rattle.hypermap.specs.Change.{change}
 use Rattle.table.specs.Layout.{Table, wordsPerDart, capacity, place, wordAt, nextWord, backWord, isPresent}
@@ -34,15 +36,23 @@ abbrev pub TableLaw : Type 0
 TableLaw =
     (n : ℕ) (m : Hypermap) → isHypermap m ≡ true → ((x : ℕ) → isDart m x ≡ true → (1 ≤ x) × (x ≤ n)) → OnlyTable n m
 
+-- the places of the four words that a change writes
+abbrev pub fourPlaces : Table → Dimension → (a b : ℕ) → List ℕ
+fourPlaces w k a b =
+    place a (backWord k) ∷ place b (backWord k) ∷ place (wordAt w a (backWord k)) (nextWord k) ∷
+    place (wordAt w b (backWord k)) (nextWord k) ∷ []
+
+-- exactly four words differ
+pub record FourDiffer (w : Table) (k : Dimension) (a b : ℕ) : Type 0 where
+  pub four : distinct (fourPlaces w k a b) ≡ true
+  pub differ : (i : ℕ) → (getD (swapped k a b w) i 0 ≡ getD w i 0 → ⊥) ↔ (among i (fourPlaces w k a b) ≡ true)
+
 -- the change of four words is the change of 2.8, whatever a and b are to each other
 pub record IsSwapped (w : Table) (k : Dimension) (a b : ℕ) : Type 0 where
   pub size : length (swapped k a b w) ≡ length w
   pub sound : isSound (swapped k a b w) ≡ true
   pub holds : Holds (swapped k a b w) (change k a b (hypermapOf w))
-  pub fourWords :
-      (i : ℕ) → (i ≡ place a (backWord k) → ⊥) → (i ≡ place b (backWord k) → ⊥) →
-      (i ≡ place (wordAt w a (backWord k)) (nextWord k) → ⊥) →
-      (i ≡ place (wordAt w b (backWord k)) (nextWord k) → ⊥) → getD (swapped k a b w) i 0 ≡ getD w i 0
+  pub fourWords : (a ≡ b → ⊥) → FourDiffer w k a b
 
 abbrev pub SwapLaw : Type 0
 SwapLaw =

@@ -1,0 +1,97 @@
+-- How a call's answer and what it leaves come of its stages: the table is judged first, and then the rest answers.
+-- Assumes nothing.
+use mathlib.Core.Path.{_≡_, refl, ap, sym, _∙_}
+use mathlib.Core.Bool.{Bool, false}
+use mathlib.Core.List.{List, _++_}
+use Prim.Native.Nat.{ℕ, _≤_, _<_}
+use native.Mathlib.Omega.{arith}
+use lib.Dec.{leb}
+use lib.ListN.{length, drop}
+use borrow.Author.Tests.{eq-eqb, ne-eqb, le-leb, lt-leb}
+use Rattle.table.specs.Refusals.{unless, shortRoom}
+use Rattle.table.specs.Layout.{Table}
+use Rattle.table.specs.Commands.{Command, presenceFault, commandFault, commandOn, commandLeaves, leaves}
+use Rattle.table.proofs.Faults.{refusedFirst, refusedSecond, refused}
+use Rattle.parts.specs.Counts.{countsOf}
+use Rattle.parts.specs.declared.Counts.{Counts}
+use Rattle.kernel.specs.Calls.{refusedTotals, totalsOf, reportOf}
+use Rattle.kernel.specs.Calls.{tableFault, callFault, callLeaves, questionFault, refusalOf, answer, listFault}
+use Rattle.kernel.specs.Calls.{listLeaves, listAnswer}
+use Rattle.kernel.specs.declared.Answer.{Answer}
+
+-- COMMANDS
+module _ (w : Table) (c : Command) (f : ℕ) (e : f ≡ tableFault w) where
+  pub callFirst : (f ≡ 0 → ⊥) → (f ≡ callFault w c) × (w ≡ callLeaves w c)
+  unfolding callFault callLeaves
+  callFirst n = let q = refusedFirst (tableFault w) (commandFault w c) f e n in (q, refused (callFault w c) f _ w q n)
+
+  pub callRest :
+      (r : ℕ) (v : Table) → f ≡ 0 → (r ≡ commandFault w c) × (v ≡ commandLeaves w c) →
+      (r ≡ callFault w c) × (v ≡ callLeaves w c)
+  unfolding callFault callLeaves
+  callRest r v z p =
+      let q = refusedSecond (tableFault w) (commandFault w c) f (commandFault w c) e z refl in
+      (p .0 ∙ q, p .1 ∙ ap (λ n. leaves n (commandOn w c) w) q)
+
+-- QUESTIONS
+module _ (w : Table) (xs : List ℕ) (f : ℕ) (e : f ≡ tableFault w) where
+  pub questionFirst : (f ≡ 0 → ⊥) → f ≡ questionFault w xs
+  unfolding questionFault
+  questionFirst n = refusedFirst (tableFault w) (presenceFault w xs) f e n
+
+  pub questionRest : (r : ℕ) → f ≡ 0 → r ≡ presenceFault w xs → r ≡ questionFault w xs
+  unfolding questionFault
+  questionRest r z q = refusedSecond (tableFault w) (presenceFault w xs) f r e z q
+
+-- a refused answer, and one that is not
+pub refusedAnswer : (f n : ℕ) (t : Bool) (k : ℕ) → f ≡ n → (f ≡ 0 → ⊥) → refusalOf f ≡ answer n t k
+unfolding answer
+refusedAnswer f n t k e z = rw (ne-eqb n 0 (λ q. z (e ∙ q))) (ap refusalOf e)
+
+pub givenAnswer :
+    (f n : ℕ) (t : Bool) (k : ℕ) → f ≡ n → f ≡ 0 → record { number = 0; yes = t; count = k } ≡ answer n t k
+unfolding answer
+givenAnswer f n t k e z = rw (eq-eqb n 0 (sym e ∙ z))
+
+-- a refused report, and one that is not
+pub refusedReport : (w : Table) (f : ℕ) → f ≡ tableFault w → (f ≡ 0 → ⊥) → refusedTotals f ≡ reportOf w
+unfolding reportOf
+refusedReport w f e z = rw (ne-eqb (tableFault w) 0 (λ q. z (e ∙ q))) (ap refusedTotals e)
+
+pub givenReport :
+    (w : Table) (f : ℕ) (c : Counts) → f ≡ tableFault w → f ≡ 0 → c ≡ countsOf w → totalsOf c ≡ reportOf w
+unfolding reportOf
+givenReport w f c e z q = rw (eq-eqb (tableFault w) 0 (sym e ∙ z)) (ap totalsOf q)
+
+-- LISTS: refused before the room is judged, for want of room, or written
+module _ (n : ℕ) (xs o : List ℕ) (f : ℕ) (e : f ≡ n) where
+  pub listFirst :
+      (r : Answer) → r ≡ refusalOf f → (f ≡ 0 → ⊥) → (r ≡ listAnswer n xs o) × (o ≡ listLeaves n xs o)
+  unfolding listAnswer listLeaves listFault
+  listFirst r i z =
+      let q = refusedFirst n (unless (leb (length xs) (length o)) shortRoom) f e z in
+      (i ∙ refusedAnswer f (listFault n xs o) false (length xs) q z, rw (ne-eqb (listFault n xs o) 0 (λ p. z (q ∙ p))))
+
+  pub listShort :
+      (r : Answer) → r ≡ refusalOf shortRoom → f ≡ 0 → length o < length xs →
+      (r ≡ listAnswer n xs o) × (o ≡ listLeaves n xs o)
+  unfolding listAnswer listLeaves listFault unless
+  listShort r i z l =
+      let s : shortRoom ≡ unless (leb (length xs) (length o)) shortRoom = rw (lt-leb (length xs) (length o) l) in
+      let q = refusedSecond n (unless (leb (length xs) (length o)) shortRoom) f shortRoom e z s in
+      let p : shortRoom ≡ 0 → ⊥ = λ j. absurd (omega arith) in (
+        i ∙ refusedAnswer shortRoom (listFault n xs o) false (length xs) q p,
+        rw (ne-eqb (listFault n xs o) 0 (λ j. p (q ∙ j))),
+      )
+
+  pub listWritten :
+      (k : ℕ) (v : List ℕ) → f ≡ 0 → length xs ≤ length o → k ≡ length xs → v ≡ xs ++ drop (length xs) o →
+      (record { number = 0; yes = false; count = k } ≡ listAnswer n xs o) × (v ≡ listLeaves n xs o)
+  unfolding listAnswer listLeaves listFault unless
+  listWritten k v z l c d =
+      let s : 0 ≡ unless (leb (length xs) (length o)) shortRoom = rw (le-leb (length xs) (length o) l) in
+      let q = refusedSecond n (unless (leb (length xs) (length o)) shortRoom) f 0 e z s in
+      let a = givenAnswer 0 (listFault n xs o) false (length xs) q refl in (
+        ap (λ j. record { number = 0; yes = false; count = j }) c ∙ a,
+        d ∙ rw (eq-eqb (listFault n xs o) 0 (sym q)),
+      )

@@ -1,0 +1,122 @@
+-- What a call that was not refused has passed: its table has a size and is sound, and what a report of it gives.
+-- Assumes nothing.
+use mathlib.Core.Path.{_≡_, sym, _∙_}
+use mathlib.Core.Bool.{true, false}
+use mathlib.Core.List.{[], _∷_}
+use Prim.Native.Nat.{ℕ, _*_, _%_, _≤_}
+use native.Mathlib.Omega.{arith}
+use lib.Dec.{eqb, leb}
+use lib.ListN.{length}
+use borrow.Author.Tests.{eqb-true, eq-eqb, leb-true, not-true}
+use Rattle.hypermap.specs.Hypermap.{Dimension, componentOf, components, characteristic, genus}
+use Rattle.hypermap.proofs.Basics.Bools.{byCases, andRight}
+use Rattle.table.specs.Refusals.{wrongSize, bentTable, orElse, unless}
+use Rattle.table.specs.Layout.{Table, wordsPerDart, capacity, isPresent, isSound, hypermapOf}
+use Rattle.table.specs.Commands.{Command, joins, isTogether, presenceFault, commandFault, commandOn, leaves}
+use Rattle.table.proofs.Faults.{passed, fitting, onePresent, bothPresent}
+use Rattle.parts.specs.Counts.{countsOf}
+use Rattle.parts.specs.Inner.{CountedAtBoth}
+use Rattle.parts.specs.Marks.{componentMarks}
+use Rattle.parts.proofs.Marking.{marksLength}
+use Rattle.kernel.specs.Calls.{maxCapacity, sizeFits, tableFault, callFault, callLeaves, reportOf}
+use Rattle.kernel.specs.Calls.{questionFault}
+
+-- THE TABLE
+pub record Passed (w : Table) : Type 0 where
+  pub size : sizeFits w ≡ true
+  pub sound : isSound w ≡ true
+  pub room : capacity w ≤ maxCapacity
+
+pub sizeRoom : (w : Table) → sizeFits w ≡ true → capacity w ≤ maxCapacity
+unfolding sizeFits
+sizeRoom w t =
+    let l = leb-true (length w) (wordsPerDart * maxCapacity)
+    (andRight (eqb (length w % wordsPerDart) 0) (leb (length w) (wordsPerDart * maxCapacity)) t) in
+    omega arith
+
+pub tablePassed : (w : Table) → tableFault w ≡ 0 → Passed w
+unfolding tableFault
+tablePassed w e =
+    let p = passed (unless (sizeFits w) wrongSize) (unless (isSound w) bentTable) e in
+    let s = fitting (sizeFits w) wrongSize (omega arith) (p .0) in
+    record { size = s; sound = fitting (isSound w) bentTable (omega arith) (p .1); room = sizeRoom w s }
+
+pub tableFits : (w : Table) → sizeFits w ≡ true → isSound w ≡ true → tableFault w ≡ 0
+unfolding tableFault orElse unless
+tableFits w s t = rw (s, t)
+
+pub sizeStays : (v w : Table) → length v ≡ length w → sizeFits w ≡ true → sizeFits v ≡ true
+unfolding sizeFits
+sizeStays v w e t = rw e t
+
+-- A REPORT
+pub record Reported (w : Table) : Type 0 where
+  pub number : reportOf w .number ≡ 0
+  pub components : reportOf w .components ≡ components (hypermapOf w)
+  pub characteristic : reportOf w .characteristic ≡ characteristic (hypermapOf w)
+  pub genus : reportOf w .genus ≡ genus (hypermapOf w)
+
+pub reported : (w : Table) → tableFault w ≡ 0 → Reported w
+unfolding reportOf countsOf
+reported w e =
+    let t = eq-eqb (tableFault w) 0 e in
+    record { number = rw t; components = rw t; characteristic = rw t; genus = rw t }
+
+pub reportPassed : (w : Table) → reportOf w .number ≡ 0 → tableFault w ≡ 0
+unfolding reportOf
+reportPassed w e =
+    byCases (eqb (tableFault w) 0) (λ t. eqb-true (tableFault w) 0 t) (λ t. rw t at e)
+
+-- A COMMAND
+pub callPassed : (w : Table) (c : Command) → callFault w c ≡ 0 → (tableFault w ≡ 0) × (commandFault w c ≡ 0)
+unfolding callFault
+callPassed w c e = passed (tableFault w) (commandFault w c) e
+
+pub acceptedLeaves : (w : Table) (c : Command) → callFault w c ≡ 0 → callLeaves w c ≡ commandOn w c
+unfolding callLeaves leaves
+acceptedLeaves w c e = rw (eq-eqb (callFault w c) 0 e)
+
+pub record Joined (w : Table) (k : Dimension) (a b : ℕ) : Type 0 where
+  pub first : isPresent w a ≡ true
+  pub second : isPresent w b ≡ true
+  pub apart : isTogether w k a b ≡ false
+
+pub joinPassed : (w : Table) (k : Dimension) (a b : ℕ) → commandFault w (joins k a b) ≡ 0 → Joined w k a b
+joinPassed w k a b e =
+    let p = passed (presenceFault w (a ∷ b ∷ [])) _ e in
+    let q = bothPresent w a b (p .0) in
+    record { first = q .0; second = q .1; apart = not-true (isTogether w k a b) (fitting _ _ (omega arith) (p .1)) }
+
+-- as many marks as the capacity
+pub marksMany : (w : Table) (n : ℕ) → n ≡ capacity w → n ≡ length (componentMarks w)
+marksMany w n e = e ∙ sym (marksLength w (componentOf (hypermapOf w)))
+
+-- the two stages of a table
+pub wrongFirst : (w : Table) → sizeFits w ≡ false → wrongSize ≡ tableFault w
+unfolding tableFault orElse unless
+wrongFirst w t = rw t
+
+pub wrongRest : (w : Table) (r : ℕ) → sizeFits w ≡ true → r ≡ unless (isSound w) bentTable → r ≡ tableFault w
+unfolding tableFault orElse unless
+wrongRest w r t q = rw t q
+
+-- A QUESTION about one dart and about two
+pub record Ready (w : Table) (x : ℕ) : Type 0 where
+  pub sound : isSound w ≡ true
+  pub room : capacity w ≤ maxCapacity
+  pub here : isPresent w x ≡ true
+
+pub dartReady : (w : Table) (x : ℕ) → questionFault w (x ∷ []) ≡ 0 → Ready w x
+unfolding questionFault
+dartReady w x e =
+    let p = passed (tableFault w) (presenceFault w (x ∷ [])) e in
+    let t = tablePassed w (p .0) in
+    record { sound = t .sound; room = t .room; here = onePresent w x (p .1) }
+
+pub dartsReady : (w : Table) (a b : ℕ) → questionFault w (a ∷ b ∷ []) ≡ 0 → CountedAtBoth w a b
+unfolding questionFault
+dartsReady w a b e =
+    let p = passed (tableFault w) (presenceFault w (a ∷ b ∷ [])) e in
+    let t = tablePassed w (p .0) in
+    let q = bothPresent w a b (p .1) in
+    record { both = record { sound = t .sound; first = q .0; second = q .1 }; room = t .room }

@@ -1,0 +1,60 @@
+use borrow.Author.Needs.{needs}
+use mathlib.Core.Path.{sym, _∙_}
+use native.Mathlib.Omega.{arith}
+use Rattle.kernel.proofs.Answering.{listFirst, listShort, listWritten}
+use Rattle.kernel.proofs.Judging.{dartReady}
+use Rattle.kernel.proofs.round.Statement.{statement}
+use Rattle.kernel.proofs.round.Tie as tie
+
+returns : tie.Need-returns
+returns c =
+    let t = c .before in
+    listFirst _ _ _ _ (t .before .dart-question-fault .ensures) _ (c .refused .ensures) (t .if1 .taken)
+
+orbit-length-requires : tie.Need-orbit-length-requires
+orbit-length-requires c κs =
+    let r = dartReady _ _ (sym (c .before .dart-question-fault .ensures) ∙ c .if1 .left) in
+    record { sound = r .sound; here = r .here }
+
+returns-2 : tie.Need-returns-2
+returns-2 c =
+    let l = c .before .before in
+    let t = l .before in
+    let e = t .before .dart-question-fault .ensures in
+    listShort _ _ _ _ e _ (c .refused2 .ensures) (t .if1 .left)
+    (omega (arith, l .orbit-length .ensures, c .before .if2 .taken))
+
+write-orbit-requires : tie.Need-write-orbit-requires
+write-orbit-requires c κs =
+    let l = c .before .before in
+    let t = l .before in
+    let r = dartReady _ _ (sym (t .before .dart-question-fault .ensures) ∙ t .if1 .left) in
+    record {
+      dart = record { sound = r .sound; here = r .here };
+      room = omega (arith, l .orbit-length .ensures, c .before .if2 .left);
+    }
+
+returns-3 : tie.Need-returns-3
+returns-3 c =
+    let s = c .before .before .before .before in
+    let l = s .before in
+    let t = l .before in
+    let e = t .before .dart-question-fault .ensures in
+    let k = l .orbit-length .ensures in
+    let o = c .before .before .write-orbit .ensures in
+    listWritten _ _ _ _ e _ _ (t .if1 .left) (omega (arith, k, s .if2 .left)) k o
+
+pub round-spec : {M : Type 1} → statement M
+round-spec =
+    tie.close
+    (tie.spec
+    (λ c κs. search needs)
+    (λ c κs. search needs)
+    returns
+    orbit-length-requires
+    (λ c. search needs)
+    (λ c κs. search needs)
+    returns-2
+    write-orbit-requires
+    (λ c. search needs)
+    returns-3)

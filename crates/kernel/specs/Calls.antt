@@ -1,0 +1,117 @@
+-- What the public calls answer and leave. Document 01, "Questions" and "Refusals". Assumes nothing: these are
+-- definitions.
+use mathlib.Core.Bool.{Bool, false, _&&_, cond}
+use mathlib.Core.List.{List, [], _∷_, _++_}
+use Prim.Native.Nat.{ℕ, _*_, _%_}
+use lib.Dec.{leb, eqb}
+use lib.IntN.{pos}
+use lib.ListN.{length, take, drop}
+use Rattle.hypermap.specs.Hypermap.{orbitOf}
+use Rattle.table.specs.Refusals.{wrongSize, bentTable, shortRoom, orElse, unless}
+use Rattle.table.specs.Layout.{Table, wordsPerDart, place, isSound, hypermapOf}
+use Rattle.table.specs.Commands.{Command, presenceFault, commandFault, commandOn, leaves}
+use Rattle.table.specs.Inner.{kindOf}
+use Rattle.table.specs.declared.Orbit.{Orbit}
+use Rattle.parts.specs.Marks.{componentMarks}
+use Rattle.parts.specs.Counts.{countsOf}
+use Rattle.parts.specs.Sharing.{isSame}
+use Rattle.parts.specs.declared.Counts.{Counts}
+use Rattle.parts.specs.declared.Part.{Part}
+use Rattle.kernel.specs.declared.Totals.{Totals}
+use Rattle.kernel.specs.declared.Answer.{Answer}
+
+-- 1 and 2 come before all else
+abbrev pub maxCapacity : ℕ
+maxCapacity = 4096
+
+unfoldable pub sizeFits : Table → Bool
+sizeFits w = eqb (length w % wordsPerDart) 0 && leb (length w) (wordsPerDart * maxCapacity)
+
+unfoldable pub tableFault : Table → ℕ
+tableFault w = orElse (unless (sizeFits w) wrongSize) (unless (isSound w) bentTable)
+
+-- COMMANDS
+unfoldable pub callFault : Table → Command → ℕ
+callFault w c = orElse (tableFault w) (commandFault w c)
+
+unfoldable pub callLeaves : Table → Command → Table
+callLeaves w c = leaves (callFault w c) (commandOn w c) w
+
+-- THE REPORT: the refusal and zeros, or 0 and the counts
+abbrev pub refusedTotals : (number : ℕ) → Totals
+refusedTotals n =
+    record {
+      number = n;
+      darts = 0;
+      edges = 0;
+      vertices = 0;
+      faces = 0;
+      components = 0;
+      characteristic = pos 0;
+      genus = 0;
+      lifts = 0;
+    }
+
+abbrev pub totalsOf : Counts → Totals
+totalsOf c =
+    record {
+      number = 0;
+      darts = c .darts;
+      edges = c .edges;
+      vertices = c .vertices;
+      faces = c .faces;
+      components = c .components;
+      characteristic = c .characteristic;
+      genus = c .genus;
+      lifts = c .lifts;
+    }
+
+unfoldable pub reportOf : Table → Totals
+reportOf w = cond (eqb (tableFault w) 0) (totalsOf (countsOf w)) (refusedTotals (tableFault w))
+
+-- QUESTIONS about darts of the table
+unfoldable pub questionFault : Table → (named : List ℕ) → ℕ
+questionFault w xs = orElse (tableFault w) (presenceFault w xs)
+
+abbrev pub refusalOf : (number : ℕ) → Answer
+refusalOf n = record { number = n; yes = false; count = 0 }
+
+-- a refusal with all else zero, or 0 with what was asked
+unfoldable pub answer : (refusal : ℕ) → (yes : Bool) → (count : ℕ) → Answer
+answer n t k = cond (eqb n 0) (record { number = 0; yes = t; count = k }) (refusalOf n)
+
+-- the papers leave the count of this answer free: it is 0
+unfoldable pub sameAnswer : Table → Part → (a b : ℕ) → Answer
+sameAnswer w p a b = answer (questionFault w (a ∷ b ∷ [])) (isSame w p a b) 0
+
+-- LISTS into a lent buffer: 14 where it is shorter than the list, after the refusal n
+unfoldable pub listFault : (n : ℕ) → (list out : List ℕ) → ℕ
+listFault n xs o = orElse n (unless (leb (length xs) (length o)) shortRoom)
+
+-- the list, and the buffer's words past it
+unfoldable pub listLeaves : (n : ℕ) → (list out : List ℕ) → List ℕ
+listLeaves n xs o = cond (eqb (listFault n xs o) 0) (xs ++ drop (length xs) o) o
+
+unfoldable pub listAnswer : (n : ℕ) → (list out : List ℕ) → Answer
+listAnswer n xs o = answer (listFault n xs o) false (length xs)
+
+-- an edge, a vertex or a face in walking order
+abbrev pub roundOf : Table → Orbit → (x : ℕ) → List ℕ
+roundOf w k x = orbitOf (hypermapOf w) (kindOf k) x
+
+abbrev pub roundAnswer : Table → Orbit → (x : ℕ) → (out : List ℕ) → Answer
+roundAnswer w k x o = listAnswer (questionFault w (x ∷ [])) (roundOf w k x) o
+
+abbrev pub roundLeaves : Table → Orbit → (x : ℕ) → (out : List ℕ) → List ℕ
+roundLeaves w k x o = listLeaves (questionFault w (x ∷ [])) (roundOf w k x) o
+
+-- the papers leave the count of the marks free: it is the capacity, as many as there are marks
+abbrev pub marksAnswer : Table → (out : List ℕ) → Answer
+marksAnswer w o = listAnswer (tableFault w) (componentMarks w) o
+
+abbrev pub marksLeaves : Table → (out : List ℕ) → List ℕ
+marksLeaves w o = listLeaves (tableFault w) (componentMarks w) o
+
+-- A LOOK: a dart's words in the table, empty where "same edge as itself" is refused
+unfoldable pub lookOf : Table → (x : ℕ) → List ℕ
+lookOf w x = cond (eqb (questionFault w (x ∷ x ∷ [])) 0) (take wordsPerDart (drop (place x 0) w)) []

@@ -1,0 +1,196 @@
+// The kernel's public calls: the whole of what a caller may use. None has a `requires`: whatever words are lent and
+// whatever numbers come, each call answers, and its contract says what, and what every lent word is afterwards.
+ghost use mathlib.Core.Path.{_≡_};
+ghost use Rattle.table.specs.Commands.{puts, takesOut, joins, cuts};
+ghost use Rattle.table.specs.Inner.{dimensionOf};
+ghost use Rattle.kernel.specs.Calls.{callFault, callLeaves, reportOf, sameAnswer, roundAnswer, roundLeaves};
+ghost use Rattle.kernel.specs.Calls.{marksAnswer, marksLeaves, lookOf};
+
+mod judge;
+
+pub use parts::Part;
+use parts::count;
+use parts::flood;
+use parts::share;
+pub use table::Dimension;
+pub use table::Orbit;
+use table::command;
+use table::refusal;
+use table::walk;
+use table::words;
+
+// What a report answers: a refusal and zeros, or 0 and the numbers in document 01's order.
+pub struct Totals {
+    pub number: u8,
+    pub darts: u32,
+    pub edges: u32,
+    pub vertices: u32,
+    pub faces: u32,
+    pub components: u32,
+    pub characteristic: i32,
+    pub genus: u32,
+    pub lifts: u32,
+}
+
+// What a question answers: a refusal and nothing else, or 0 and what was asked.
+pub struct Answer {
+    pub number: u8,
+    pub yes: bool,
+    pub count: u32,
+}
+
+// COMMANDS: each answers 0, or its refusal, and then no word has changed.
+
+// Dart x appears, an edge and a vertex by itself.
+pub fn put(table: &mut [u16], x: u16) -> u8
+    ensures { λ r. ⌜ r ≡ callFault (now (table .entry)) (puts x) ⌝ }
+    ensures table { λ r. ⌜ now (table .exit) ≡ callLeaves (now (table .entry)) (puts x) ⌝ }
+{
+    let fault = judge::table_fault(table);
+    if fault != 0 {
+        return fault;
+    }
+    command::put(table, x)
+}
+
+// Dart x disappears, which is an edge and a vertex by itself.
+pub fn take_out(table: &mut [u16], x: u16) -> u8
+    ensures { λ r. ⌜ r ≡ callFault (now (table .entry)) (takesOut x) ⌝ }
+    ensures table { λ r. ⌜ now (table .exit) ≡ callLeaves (now (table .entry)) (takesOut x) ⌝ }
+{
+    let fault = judge::table_fault(table);
+    if fault != 0 {
+        return fault;
+    }
+    command::take_out(table, x)
+}
+
+// The edges, or the vertices, of a and b become one.
+pub fn join(table: &mut [u16], d: Dimension, a: u16, b: u16) -> u8
+    ensures { λ r. ⌜ r ≡ callFault (now (table .entry)) (joins (dimensionOf d) a b) ⌝ }
+    ensures table { λ r. ⌜ now (table .exit) ≡ callLeaves (now (table .entry)) (joins (dimensionOf d) a b) ⌝ }
+{
+    let fault = judge::table_fault(table);
+    if fault != 0 {
+        return fault;
+    }
+    command::join(table, d, a, b)
+}
+
+// The edge, or the vertex, of a and b becomes two, one with a and one with b.
+pub fn cut(table: &mut [u16], d: Dimension, a: u16, b: u16) -> u8
+    ensures { λ r. ⌜ r ≡ callFault (now (table .entry)) (cuts (dimensionOf d) a b) ⌝ }
+    ensures table { λ r. ⌜ now (table .exit) ≡ callLeaves (now (table .entry)) (cuts (dimensionOf d) a b) ⌝ }
+{
+    let fault = judge::table_fault(table);
+    if fault != 0 {
+        return fault;
+    }
+    command::cut(table, d, a, b)
+}
+
+// QUESTIONS
+
+// How many darts, edges, vertices, faces and components there are, the characteristic, the genus and the lifts.
+pub fn report(table: &[u16]) -> Totals
+    ensures { λ r. ⌜ r ≡ reportOf (now (table .entry)) ⌝ }
+{
+    let fault = judge::table_fault(table);
+    if fault != 0 {
+        return Totals {
+            number: fault,
+            darts: 0,
+            edges: 0,
+            vertices: 0,
+            faces: 0,
+            components: 0,
+            characteristic: 0,
+            genus: 0,
+            lifts: 0,
+        };
+    }
+    let c = count::counts(table);
+    Totals {
+        number: 0,
+        darts: c.darts,
+        edges: c.edges,
+        vertices: c.vertices,
+        faces: c.faces,
+        components: c.components,
+        characteristic: c.characteristic,
+        genus: c.genus,
+        lifts: c.lifts,
+    }
+}
+
+// Whether a and b lie in one edge, vertex, face or component.
+pub fn same(table: &[u16], part: Part, a: u16, b: u16) -> Answer
+    ensures { λ r. ⌜ r ≡ sameAnswer (now (table .entry)) part a b ⌝ }
+{
+    let fault = judge::darts_question_fault(table, a, b);
+    if fault != 0 {
+        return judge::refused(fault);
+    }
+    Answer {
+        number: 0,
+        yes: share::is_same(table, part, a, b),
+        count: 0,
+    }
+}
+
+// The edge, vertex or face of x into out, in walking order and x first; the count is its length.
+pub fn round(table: &[u16], orbit: Orbit, x: u16, out: &mut [u16]) -> Answer
+    ensures { λ r. ⌜ r ≡ roundAnswer (now (table .entry)) orbit x (now (out .entry)) ⌝ }
+    ensures out { λ r. ⌜ now (out .exit) ≡ roundLeaves (now (table .entry)) orbit x (now (out .entry)) ⌝ }
+{
+    let fault = judge::dart_question_fault(table, x);
+    if fault != 0 {
+        return judge::refused(fault);
+    }
+    let count = walk::orbit_length(table, orbit, x);
+    if out.len() < count as usize {
+        return judge::refused(refusal::SHORT_ROOM);
+    }
+    walk::write_orbit(table, orbit, x, out);
+    Answer {
+        number: 0,
+        yes: false,
+        count: count,
+    }
+}
+
+// For each number up to the capacity the smallest dart of its component into out, 0 where there is no dart; the count
+// is the capacity.
+pub fn component_marks(table: &[u16], out: &mut [u16]) -> Answer
+    ensures { λ r. ⌜ r ≡ marksAnswer (now (table .entry)) (now (out .entry)) ⌝ }
+    ensures out { λ r. ⌜ now (out .exit) ≡ marksLeaves (now (table .entry)) (now (out .entry)) ⌝ }
+{
+    let fault = judge::table_fault(table);
+    if fault != 0 {
+        return judge::refused(fault);
+    }
+    let n = words::capacity_of(table);
+    if out.len() < n {
+        return judge::refused(refusal::SHORT_ROOM);
+    }
+    flood::mark_components(table, &mut out[..n]);
+    Answer {
+        number: 0,
+        yes: false,
+        count: n as u32,
+    }
+}
+
+// The words of dart x in the table, not a copy; empty where "same edge as itself" is refused.
+pub fn look<'a>(table: &'a [u16], x: u16) -> &'a [u16]
+    ensures { λ r. ⌜ now r ≡ lookOf (now (table .entry)) x ⌝ }
+{
+    let fault = judge::darts_question_fault(table, x, x);
+    if fault == 0 {
+        let at = words::place_of(x, 0);
+        let end = at + words::WORDS;
+        &table[at..end]
+    } else {
+        &table[..0]
+    }
+}

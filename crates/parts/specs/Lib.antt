@@ -1,0 +1,5 @@
+pub mod Marks
+pub mod Counts
+pub mod Sharing
+pub mod Inner
+pub mod Floods
