@@ -11,10 +11,11 @@ use borrow.Author.Tests.{eq-eqb, ne-eqb, le-leb, lt-leb}
 use Rattle.table.specs.Refusals.{unless, shortRoom}
 use Rattle.table.specs.Layout.{Table}
 use Rattle.table.specs.Commands.{Command, presenceFault, commandFault, commandOn, commandLeaves, leaves}
-use Rattle.table.proofs.Faults.{refusedFirst, refusedSecond, refused}
+use Rattle.table.proofs.Faults.{refusedFirst, refusedSecond, accepted, refused}
 use Rattle.parts.specs.Counts.{countsOf}
 use Rattle.parts.specs.declared.Counts.{Counts}
-use Rattle.kernel.specs.Calls.{refusedTotals, totalsOf, reportOf}
+use Rattle.rings.specs.Rings.{linksOf, ringFault, cutAlong}
+use Rattle.kernel.specs.Calls.{refusedTotals, totalsOf, reportOf, ringCallFault, ringCallLeaves}
 use Rattle.kernel.specs.Calls.{tableFault, callFault, callLeaves, questionFault, refusalOf, answer, listFault}
 use Rattle.kernel.specs.Calls.{listLeaves, listAnswer}
 use Rattle.kernel.specs.declared.Answer.{Answer}
@@ -32,6 +33,27 @@ module _ (w : Table) (c : Command) (f : ℕ) (e : f ≡ tableFault w) where
   callRest r v z p =
       let q = refusedSecond (tableFault w) (commandFault w c) f (commandFault w c) e z refl in
       (p .0 ∙ q, p .1 ∙ ap (λ n. leaves n (commandOn w c) w) q)
+
+-- A RING: the table is judged, then the list, and then all is cut
+module _ (w : Table) (ws : List ℕ) (f : ℕ) (e : f ≡ tableFault w) where
+  pub ringFirst : (f ≡ 0 → ⊥) → (f ≡ ringCallFault w ws) × (w ≡ ringCallLeaves w ws)
+  unfolding ringCallFault ringCallLeaves
+  ringFirst n =
+      let q = refusedFirst (tableFault w) (ringFault w ws) f e n in (q, refused (ringCallFault w ws) f _ w q n)
+
+  module _ (z : f ≡ 0) (r : ℕ) (q : r ≡ ringFault w ws) where
+    fault : r ≡ ringCallFault w ws
+    unfolding ringCallFault
+    fault = refusedSecond (tableFault w) (ringFault w ws) f r e z q
+
+    pub ringSecond : (r ≡ 0 → ⊥) → (r ≡ ringCallFault w ws) × (w ≡ ringCallLeaves w ws)
+    unfolding ringCallLeaves
+    ringSecond n = (fault, refused (ringCallFault w ws) r _ w fault n)
+
+    pub ringDone :
+        r ≡ 0 → (v : Table) → v ≡ cutAlong (linksOf ws) w → (0 ≡ ringCallFault w ws) × (v ≡ ringCallLeaves w ws)
+    unfolding ringCallLeaves
+    ringDone y v d = (sym y ∙ fault, accepted (ringCallFault w ws) r (cutAlong (linksOf ws) w) w v fault y d)
 
 -- QUESTIONS
 module _ (w : Table) (xs : List ℕ) (f : ℕ) (e : f ≡ tableFault w) where

@@ -26,9 +26,10 @@ use Rattle.table.proofs.Numbers.{numbersLength}
 use Rattle.table.proofs.Soundness.{memPresent, soundHypermap}
 use Rattle.table.proofs.Swaps.{swapLaw}
 use Rattle.kernel.specs.Calls.{tableFault, reportOf}
-use Rattle.kernel.specs.Demands.{GenusReported, GenusDemand, JoinsFreely, JoinDemand}
+use Rattle.kernel.specs.Demands.{GenusReported, GenusDemand, JoinsFreely, JoinDemand, ThirdDemand}
 use Rattle.kernel.proofs.Judging.{tablePassed, tableFits, sizeStays, reported, reportPassed, callPassed}
 use Rattle.kernel.proofs.Judging.{acceptedLeaves, Joined, joinPassed}
+use Rattle.kernel.proofs.RingDemand.{ringDemand, componentRingDemand}
 
 -- THE GENUS
 module _ (w : Table) (t : tableFault w ≡ 0) where
@@ -121,3 +122,12 @@ pub joinDemand : JoinDemand
 joinDemand w k a b e =
     let p = callPassed w (joins k a b) e in
     rw (acceptedLeaves w (joins k a b) e) (joined w k a b (p .0) (joinPassed w k a b (p .1)))
+
+-- DEMAND 3, whole
+pub thirdDemand : ThirdDemand
+thirdDemand = record {
+  genus = genusDemand;
+  joins = joinDemand;
+  rings = ringDemand;
+  componentRings = componentRingDemand;
+}

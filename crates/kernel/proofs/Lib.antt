@@ -1,3 +1,4 @@
 pub mod Answering
 pub mod Judging
+pub mod RingDemand
 pub mod Demands

@@ -17,6 +17,7 @@ use Rattle.parts.specs.Counts.{countsOf}
 use Rattle.parts.specs.Sharing.{isSame}
 use Rattle.parts.specs.declared.Counts.{Counts}
 use Rattle.parts.specs.declared.Part.{Part}
+use Rattle.rings.specs.Rings.{linksOf, ringFault, cutAlong}
 use Rattle.kernel.specs.declared.Totals.{Totals}
 use Rattle.kernel.specs.declared.Answer.{Answer}
 
@@ -36,6 +37,13 @@ callFault w c = orElse (tableFault w) (commandFault w c)
 
 unfoldable pub callLeaves : Table → Command → Table
 callLeaves w c = leaves (callFault w c) (commandOn w c) w
+
+-- A RING, lent as a list of words
+unfoldable pub ringCallFault : Table → (ring : List ℕ) → ℕ
+ringCallFault w ws = orElse (tableFault w) (ringFault w ws)
+
+unfoldable pub ringCallLeaves : Table → (ring : List ℕ) → Table
+ringCallLeaves w ws = leaves (ringCallFault w ws) (cutAlong (linksOf ws) w) w
 
 -- THE REPORT: the refusal and zeros, or 0 and the counts
 abbrev pub refusedTotals : (number : ℕ) → Totals

@@ -1,18 +1,22 @@
--- The customer's third demand, about the public calls: the part of the genus and the part of the joins. Each is a type.
--- Assumes nothing.
+-- The customer's third demand, whole, about the public calls: of the genus, of the joins and of the ring cuts. Each
+-- part is a type. Assumes nothing.
 use mathlib.Core.Path.{_≡_}
 use mathlib.Core.Logic.{_⊎_, _↔_}
 use mathlib.Core.Bool.{true, false}
+use mathlib.Core.List.{List, _∷_}
 use Prim.Native.Nat.{ℕ, suc, _*_}
 use lib.IntN.{pos, negsuc, _-ℤ_}
 use lib.Signed.{_≤ℤ_}
-use Rattle.hypermap.specs.Hypermap.{Dimension}
+use Rattle.hypermap.specs.Hypermap.{Dimension, isPlanar, componentAt}
 use Rattle.hypermap.specs.Change.{marking}
+use Rattle.hypermap.specs.Ring.{DoubleLink}
+use Rattle.hypermap.specs.RingLaws.{IsParted}
 use Rattle.table.specs.Layout.{Table, hypermapOf}
 use Rattle.table.specs.Commands.{joins}
+use Rattle.rings.specs.Rings.{linksOf}
 use Rattle.parts.specs.Sharing.{isSame}
 use Rattle.parts.specs.declared.Part.the-variants.{Face, Component}
-use Rattle.kernel.specs.Calls.{callFault, callLeaves, reportOf}
+use Rattle.kernel.specs.Calls.{callFault, callLeaves, reportOf, ringCallFault, ringCallLeaves}
 
 -- "For every sound plan, twice its pieces less its characteristic is even and never negative; half of it is the
 -- handles, as an accepted report gives them"; and the characteristic is never below −4,092 nor above 8,192
@@ -38,3 +42,34 @@ JoinDemand =
     (reportOf (callLeaves w (joins k a b)) .number ≡ 0) ×
     (reportOf (callLeaves w (joins k a b)) .genus ≡ reportOf w .genus ↔ JoinsFreely w k a b) ×
     ((JoinsFreely w k a b → ⊥) → reportOf (callLeaves w (joins k a b)) .genus ≡ suc (reportOf w .genus))
+
+-- a ring cut has parted the component of its first double-link, as `IsParted` says
+pub record IsRingCut (w v : Table) (ring : List ℕ) : Type 0 where
+  pub link : DoubleLink
+  pub links : List DoubleLink
+  pub listed : linksOf ring ≡ link ∷ links
+  pub parted : IsParted (hypermapOf w) (hypermapOf v) link links
+
+-- "On every flat plan every accepted ring cut, whatever its number of crossings, parts the ring's piece in exactly two,
+-- one with all the first tabs, the other with all the second tabs; every other piece keeps its tabs, and the plan stays
+-- flat": flat by the reports before and after it
+abbrev pub RingDemand : Type 0
+RingDemand =
+    (w : Table) (ring : List ℕ) → ringCallFault w ring ≡ 0 → reportOf w .genus ≡ 0 →
+    IsRingCut w (ringCallLeaves w ring) ring × (reportOf (ringCallLeaves w ring) .number ≡ 0) ×
+    (reportOf (ringCallLeaves w ring) .components ≡ suc (reportOf w .components)) ×
+    (reportOf (ringCallLeaves w ring) .genus ≡ 0)
+
+-- more: only the ring's own piece need be flat
+abbrev pub ComponentRingDemand : Type 0
+ComponentRingDemand =
+    (w : Table) (ring : List ℕ) (l : DoubleLink) (ls : List DoubleLink) → ringCallFault w ring ≡ 0 →
+    linksOf ring ≡ l ∷ ls → isPlanar (componentAt (hypermapOf w) (l .first)) ≡ true →
+    IsParted (hypermapOf w) (hypermapOf (ringCallLeaves w ring)) l ls
+
+-- DEMAND 3, whole
+pub record ThirdDemand : Type 0 where
+  pub genus : GenusDemand
+  pub joins : JoinDemand
+  pub rings : RingDemand
+  pub componentRings : ComponentRingDemand

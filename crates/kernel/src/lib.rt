@@ -4,7 +4,7 @@ ghost use mathlib.Core.Path.{_≡_};
 ghost use Rattle.table.specs.Commands.{puts, takesOut, joins, cuts};
 ghost use Rattle.table.specs.Inner.{dimensionOf};
 ghost use Rattle.kernel.specs.Calls.{callFault, callLeaves, reportOf, sameAnswer, roundAnswer, roundLeaves};
-ghost use Rattle.kernel.specs.Calls.{marksAnswer, marksLeaves, lookOf};
+ghost use Rattle.kernel.specs.Calls.{marksAnswer, marksLeaves, lookOf, ringCallFault, ringCallLeaves};
 
 mod judge;
 
@@ -12,6 +12,8 @@ pub use parts::Part;
 use parts::count;
 use parts::flood;
 use parts::share;
+use rings::cut::cut_along;
+use rings::judge::ring_fault;
 pub use table::Dimension;
 pub use table::Orbit;
 use table::command;
@@ -87,6 +89,24 @@ pub fn cut(table: &mut [u16], d: Dimension, a: u16, b: u16) -> u8
         return fault;
     }
     command::cut(table, d, a, b)
+}
+
+// Cuts the edge of each double-link of a ring, lent as a list of words: the two darts of each double-link in turn.
+// Document 01: the ring cut, crossing by crossing.
+pub fn ring_cut(table: &mut [u16], ring: &[u16]) -> u8
+    ensures { λ r. ⌜ r ≡ ringCallFault (now (table .entry)) (now (ring .entry)) ⌝ }
+    ensures table { λ r. ⌜ now (table .exit) ≡ ringCallLeaves (now (table .entry)) (now (ring .entry)) ⌝ }
+{
+    let fault = judge::table_fault(table);
+    if fault != 0 {
+        return fault;
+    }
+    let fault = ring_fault(table, ring);
+    if fault != 0 {
+        return fault;
+    }
+    cut_along(table, ring);
+    0
 }
 
 // QUESTIONS

@@ -30,6 +30,18 @@ apart = 8
 abbrev pub sameTab : ℕ
 sameTab = 9
 
+abbrev pub noList : ℕ
+noList = 10
+
+abbrev pub tieTwice : ℕ
+tieTwice = 11
+
+abbrev pub gapTwice : ℕ
+gapTwice = 12
+
+abbrev pub pathBroken : ℕ
+pathBroken = 13
+
 abbrev pub shortRoom : ℕ
 shortRoom = 14
 

@@ -20,6 +20,14 @@ pub const APART: u8 = 8;
 
 pub const SAME_TAB: u8 = 9;
 
+pub const NO_LIST: u8 = 10;
+
+pub const TIE_TWICE: u8 = 11;
+
+pub const GAP_TWICE: u8 = 12;
+
+pub const PATH_BROKEN: u8 = 13;
+
 pub const SHORT_ROOM: u8 = 14;
 
 // The first refusal that is not 0.

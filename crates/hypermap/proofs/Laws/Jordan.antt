@@ -35,7 +35,7 @@ use Rattle.hypermap.proofs.Hypermaps.Standing.{stands, breakRestrict}
 use Rattle.hypermap.proofs.Laws.Breaks.{sameVia, result, standsAfter, ringLaw}
 
 -- A BREAK along double-links of a closed set, or outside a component
-breakDarts : (ls : List DoubleLink) (m : Hypermap) → breakAlong ls m .darts ≡ m .darts
+pub breakDarts : (ls : List DoubleLink) (m : Hypermap) → breakAlong ls m .darts ≡ m .darts
 unfolding breakAlong
 breakDarts [] m = refl
 breakDarts (l ∷ ls) m = breakDarts ls (change edge (l .first) (l .second) m)

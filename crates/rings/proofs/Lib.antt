@@ -1,0 +1,10 @@
+pub mod Links
+pub mod Asking
+pub mod Stages
+pub mod Pairs
+pub mod Firsts
+pub mod Paths
+pub mod Cuts
+pub mod Cutting
+pub mod Conditions
+pub mod Parting
