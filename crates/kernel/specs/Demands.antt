@@ -1,5 +1,5 @@
 -- The customer's third demand, whole, about the public calls: of the genus, of the joins and of the ring cuts. Each
--- part is a type. Assumes nothing.
+-- part is a type, and proofs/Demands cites the proof of each. Assumes nothing.
 use mathlib.Core.Path.{_≡_}
 use mathlib.Core.Logic.{_⊎_, _↔_}
 use mathlib.Core.Bool.{true, false}

@@ -48,7 +48,7 @@ pub record Passed (w : Table) (part : ℕ → List ℕ) (x count : ℕ) (m : Lis
   pub below : (y : ℕ) → 1 ≤ y → y ≤ capacity w → markOf w part y < x → markAt m y ≡ markOf w part y
   pub above : (y : ℕ) → 1 ≤ y → y ≤ capacity w → x ≤ markOf w part y → markAt m y ≡ 0
 
-pub mapUpFrom : (h : ℕ → ℕ) (a n i : ℕ) → i < n → getD (map h (upFrom a n)) i 0 ≡ h (a + i)
+mapUpFrom : (h : ℕ → ℕ) (a n i : ℕ) → i < n → getD (map h (upFrom a n)) i 0 ≡ h (a + i)
 unfolding upFrom
 mapUpFrom h a zero i l = absurd (omega arith)
 mapUpFrom h a (suc n) zero l = rw add-zero
@@ -80,7 +80,7 @@ module _ (w : Table) (part : ℕ → List ℕ) (q : Equivalence (hypermapOf w .d
   unfolding markOf
   markedDart x l = byCases (isPresent w x) (λ p. p) (λ p. absurd (omega (arith, rw p at l)))
 
-  pub markInside : (x : ℕ) → Dart x → Mem (mark x) (part x)
+  markInside : (x : ℕ) → Dart x → Mem (mark x) (part x)
   markInside x p =
       rw (markIs x p) (leastHas (λ y. Mem y (part x)) x (part x) (q .reflexive x (member x p)) (λ y i. i))
 
@@ -90,7 +90,7 @@ module _ (w : Table) (part : ℕ → List ℕ) (q : Equivalence (hypermapOf w .d
       rw (markIs y d) (leastLow y (part y) .1 (mark x)
       (q .transitive y x (mark x) (member y d) (q .symmetric x y (member x p) i) (markInside x p)))
 
-  pub markSame : (x y : ℕ) → Dart x → Mem y (part x) → mark y ≡ mark x
+  markSame : (x y : ℕ) → Dart x → Mem y (part x) → mark y ≡ mark x
   markSame x y p i =
       omega (arith, markLow x y p i, markLow y x (within x y p i) (q .symmetric x y (member x p) i))
 

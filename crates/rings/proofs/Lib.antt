@@ -1,8 +1,9 @@
 pub mod Links
 pub mod Asking
 pub mod Stages
-pub mod Pairs
 pub mod Firsts
+pub mod Telling
+pub mod Pairs
 pub mod Paths
 pub mod Cuts
 pub mod Cutting

@@ -7,7 +7,7 @@ use Prim.Native.Nat.{ℕ, _≤_}
 use lib.Dec.{eqb}
 use lib.ListN.{length}
 use Rattle.hypermap.specs.Lists.{all}
-use Rattle.hypermap.specs.Hypermap.{Kind, face, sameOrbit}
+use Rattle.hypermap.specs.Hypermap.{Kind, face, sameOrbit, sameEdge}
 use Rattle.hypermap.specs.Ring.{DoubleLink, noTwo}
 use Rattle.table.specs.Layout.{Table, capacity, isPresent, isSound, hypermapOf}
 use Rattle.parts.specs.Inner.{markAt}
@@ -37,6 +37,12 @@ unfoldable pub FirstsMarked : Table → Kind → List DoubleLink → (marks : Li
 FirstsMarked w c ls m =
     Each (λ l. (y : ℕ) → isPresent w y ≡ true →
     eqb (markAt m y) (l .first) ≡ sameOrbit (hypermapOf w) c (l .first) y) ls
+
+-- the mark of each first dart is the mark of the darts in its edge, and of no other dart
+unfoldable pub FirstsTell : Table → List DoubleLink → (marks : List ℕ) → Type 0
+FirstsTell w ls m =
+    Each (λ l. (y : ℕ) → isPresent w y ≡ true →
+    eqb (markAt m (l .first)) (markAt m y) ≡ sameEdge (hypermapOf w) (l .first) y) ls
 
 -- what the path is judged by
 pub record PathMarked (w : Table) (ws marks : List ℕ) : Type 0 where
