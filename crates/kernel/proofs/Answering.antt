@@ -8,7 +8,7 @@ use native.Mathlib.Omega.{arith}
 use lib.Dec.{leb}
 use lib.ListN.{length, drop}
 use borrow.Author.Tests.{eq-eqb, ne-eqb, le-leb, lt-leb}
-use Rattle.table.specs.Refusals.{unless, shortRoom}
+use Rattle.table.specs.Refusals.{orElse, unless, shortRoom}
 use Rattle.table.specs.Layout.{Table}
 use Rattle.table.specs.Commands.{Command, presenceFault, commandFault, commandOn, commandLeaves, leaves}
 use Rattle.table.proofs.Faults.{refusedFirst, refusedSecond, accepted, refused}
@@ -20,11 +20,17 @@ use Rattle.kernel.specs.Calls.{tableFault, callFault, callLeaves, questi
 use Rattle.kernel.specs.Calls.{listLeaves, listAnswer}
 use Rattle.kernel.specs.declared.Answer.{Answer}
 
+-- the table's refusal comes first, whatever comes after it
+judgedFirst :
+    (w v : Table) (n f : ℕ) → f ≡ tableFault w → (f ≡ 0 → ⊥) →
+    (f ≡ orElse (tableFault w) n) × (w ≡ leaves (orElse (tableFault w) n) v w)
+judgedFirst w v n f e z = let q = refusedFirst (tableFault w) n f e z in (q, refused _ f v w q z)
+
 -- COMMANDS
 module _ (w : Table) (c : Command) (f : ℕ) (e : f ≡ tableFault w) where
   pub callFirst : (f ≡ 0 → ⊥) → (f ≡ callFault w c) × (w ≡ callLeaves w c)
   unfolding callFault callLeaves
-  callFirst n = let q = refusedFirst (tableFault w) (commandFault w c) f e n in (q, refused (callFault w c) f _ w q n)
+  callFirst = judgedFirst w (commandOn w c) (commandFault w c) f e
 
   pub callRest :
       (r : ℕ) (v : Table) → f ≡ 0 → (r ≡ commandFault w c) × (v ≡ commandLeaves w c) →
@@ -38,8 +44,7 @@ module _ (w : Table) (c : Command) (f : ℕ) (e : f ≡ tableFault w) where
 module _ (w : Table) (ws : List ℕ) (f : ℕ) (e : f ≡ tableFault w) where
   pub ringFirst : (f ≡ 0 → ⊥) → (f ≡ ringCallFault w ws) × (w ≡ ringCallLeaves w ws)
   unfolding ringCallFault ringCallLeaves
-  ringFirst n =
-      let q = refusedFirst (tableFault w) (ringFault w ws) f e n in (q, refused (ringCallFault w ws) f _ w q n)
+  ringFirst = judgedFirst w (cutAlong (linksOf ws) w) (ringFault w ws) f e
 
   module _ (z : f ≡ 0) (r : ℕ) (q : r ≡ ringFault w ws) where
     fault : r ≡ ringCallFault w ws

@@ -91,15 +91,6 @@ joinPassed w k a b e =
 pub marksMany : (w : Table) (n : ℕ) → n ≡ capacity w → n ≡ length (componentMarks w)
 marksMany w n e = e ∙ sym (marksLength w (componentOf (hypermapOf w)))
 
--- the two stages of a table
-pub wrongFirst : (w : Table) → sizeFits w ≡ false → wrongSize ≡ tableFault w
-unfolding tableFault orElse unless
-wrongFirst w t = rw t
-
-pub wrongRest : (w : Table) (r : ℕ) → sizeFits w ≡ true → r ≡ unless (isSound w) bentTable → r ≡ tableFault w
-unfolding tableFault orElse unless
-wrongRest w r t q = rw t q
-
 -- A QUESTION about one dart and about two
 pub record Ready (w : Table) (x : ℕ) : Type 0 where
   pub sound : isSound w ≡ true

@@ -20,7 +20,7 @@ use Rattle.rings.specs.Laws.{isRingOf, IsCut, areDarts, PartingLaw, Plan
 use Rattle.rings.proofs.Cuts.{holdsAgrees, cutLaw}
 use Rattle.rings.proofs.Conditions.{ringTo, conditionsLaw}
 
-pub doubleDarts : (m : Hypermap) (ls : List DoubleLink) → allLinks (isDoubleLink m) ls ≡ true → areDarts m ls ≡ true
+doubleDarts : (m : Hypermap) (ls : List DoubleLink) → allLinks (isDoubleLink m) ls ≡ true → areDarts m ls ≡ true
 unfolding allLinks
 doubleDarts m [] t = refl
 doubleDarts m (l ∷ ls) t =
@@ -29,11 +29,13 @@ doubleDarts m (l ∷ ls) t =
     (andLeft (isDoubleLink m l) (allLinks (isDoubleLink m) ls) t))
     (doubleDarts m ls (andRight (isDoubleLink m l) (allLinks (isDoubleLink m) ls) t))
 
--- an accepted list leaves a sound table that holds the break
+-- a ring leaves a sound table that holds the break
+ringIsCut :
+    (w : Table) (ls : List DoubleLink) → isSound w ≡ true → isRingOf (hypermapOf w) ls ≡ true → IsCut w ls
+ringIsCut w ls s r = cutLaw w ls s (doubleDarts (hypermapOf w) ls (ringTo (hypermapOf w) ls r .0))
+
 pub acceptedCut : (w : Table) (ws : List ℕ) → isSound w ≡ true → ringFault w ws ≡ 0 → IsCut w (linksOf ws)
-acceptedCut w ws s e =
-    let m = hypermapOf w in
-    cutLaw w (linksOf ws) s (doubleDarts m (linksOf ws) (ringTo m (linksOf ws) (conditionsLaw w ws .0 e .1) .0))
+acceptedCut w ws s e = ringIsCut w (linksOf ws) s (conditionsLaw w ws .0 e .1)
 
 module _
     (w : Table) (l : DoubleLink) (ls : List DoubleLink) (s : isSound w ≡ true)
@@ -48,7 +50,7 @@ module _
   broken = breakAlong (l ∷ ls) m
 
   isCut : IsCut w (l ∷ ls)
-  isCut = cutLaw w (l ∷ ls) s (doubleDarts m (l ∷ ls) (ringTo m (l ∷ ls) ring .0))
+  isCut = ringIsCut w (l ∷ ls) s ring
 
   pairs : (isRing m l ls ≡ true) × (pairsDiffer (l ∷ ls) ≡ true)
   unfolding isRingOf

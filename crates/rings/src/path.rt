@@ -19,6 +19,7 @@ fn next_first(ring: &[u16], k: usize) -> u16
     }
 }
 
+// Whether the path goes on and closes. The table is lent for the contract alone: the marks tell all.
 pub fn path_closes(table: &[u16], ring: &[u16], marks: &[u16]) -> bool
     requires { ⌜ PathMarked (now table) (now ring) (now marks) ⌝ }
     ensures { λ r. ⌜ r ≡ pathCloses (hypermapOf (now (table .entry))) (linksOf (now (ring .entry))) ⌝ }

@@ -1,12 +1,12 @@
 -- Refusals in order: what a refusal of 0 says of each stage, and how the stages of code put together give a
 -- definition's. Assumes nothing.
 use mathlib.Core.Path.{_≡_, refl, sym, _∙_}
-use mathlib.Core.Bool.{Bool, true, false, _&&_}
+use mathlib.Core.Bool.{Bool, true, false, _&&_, not}
 use mathlib.Core.List.{List, [], _∷_}
 use Prim.Native.Nat.{ℕ, _<_}
 use native.Mathlib.Omega.{arith}
 use lib.Dec.{eqb}
-use borrow.Author.Tests.{eqb-true, eqb-false, eq-eqb, ne-eqb}
+use borrow.Author.Tests.{eqb-true, eqb-false, eq-eqb, ne-eqb, not-true, not-false}
 use Rattle.hypermap.specs.Lists.{all}
 use Rattle.hypermap.proofs.Basics.Bools.{byCases}
 use Rattle.hypermap.proofs.Basics.Lists.{Mem, memHead, memTail, allMem}
@@ -32,6 +32,15 @@ refusedFirst n m r e z = rw (ne-eqb n 0 (λ q. z (e ∙ q))) e
 pub refusedSecond : (n m k r : ℕ) → k ≡ n → k ≡ 0 → r ≡ m → r ≡ orElse n m
 unfolding orElse
 refusedSecond n m k r e z q = rw (eq-eqb n 0 (sym e ∙ z)) q
+
+-- code asks r for a condition t, and stops there or goes on
+pub stageStop : (r t : Bool) (n m : ℕ) → 0 < n → r ≡ t → not r ≡ true → n ≡ orElse (unless t n) m
+unfolding orElse unless
+stageStop r t n m p e f = rw (sym e ∙ not-true r f, ne-eqb n 0 (omega arith))
+
+pub stageOn : (r t : Bool) (n m k : ℕ) → r ≡ t → not r ≡ false → k ≡ m → k ≡ orElse (unless t n) m
+unfolding orElse unless
+stageOn r t n m k e f q = rw (sym e ∙ not-false r f) q
 
 -- PRESENCE of one dart and of two
 andAll : (t : Bool) → (t && true) ≡ t

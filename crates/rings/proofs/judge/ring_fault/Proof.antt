@@ -1,11 +1,10 @@
 use borrow.Author.Needs.{needs}
 use mathlib.Core.Path.{sym, _∙_}
 use native.Mathlib.Omega.{arith}
-use Rattle.table.proofs.Faults.{refusedFirst, refusedSecond}
+use Rattle.table.proofs.Faults.{refusedFirst, refusedSecond, stageStop, stageOn}
 use Rattle.parts.proofs.Counting.{zerosLength}
 use Rattle.rings.specs.Rings.{ringFault}
 use Rattle.rings.proofs.Conditions.{wordsPresent}
-use Rattle.rings.proofs.Stages.{stageStop, stageOn}
 use Rattle.rings.proofs.judge.ring_fault.Statement.{statement}
 use Rattle.rings.proofs.judge.ring_fault.Tie as tie
 
