@@ -11,10 +11,10 @@ use borrow.Author.Tests.{eq-eqb, ne-eqb, le-leb, lt-leb}
 use Rattle.table.specs.Refusals.{orElse, unless, shortRoom}
 use Rattle.table.specs.Layout.{Table}
 use Rattle.table.specs.Commands.{Command, presenceFault, commandFault, commandOn, commandLeaves, leaves}
-use Rattle.table.proofs.Faults.{refusedFirst, refusedSecond, accepted, refused}
+use Rattle.table.proofs.Faults.{refusedFirst, refusedSecond, refused}
 use Rattle.parts.specs.Counts.{countsOf}
 use Rattle.parts.specs.declared.Counts.{Counts}
-use Rattle.rings.specs.Rings.{linksOf, ringFault, cutAlong}
+use Rattle.rings.specs.Rings.{linksOf, ringFault, cutAlong, ringLeaves}
 use Rattle.kernel.specs.Calls.{refusedTotals, totalsOf, reportOf, ringCallFault, ringCallLeaves}
 use Rattle.kernel.specs.Calls.{tableFault, callFault, callLeaves, questionFault, refusalOf, answer, listFault}
 use Rattle.kernel.specs.Calls.{listLeaves, listAnswer}
@@ -26,6 +26,14 @@ judgedFirst :
     (f ≡ orElse (tableFault w) n) × (w ≡ leaves (orElse (tableFault w) n) v w)
 judgedFirst w v n f e z = let q = refusedFirst (tableFault w) n f e z in (q, refused _ f v w q z)
 
+-- and else what comes after it answers
+judgedRest :
+    (w v u : Table) (n f r : ℕ) → f ≡ tableFault w → f ≡ 0 → (r ≡ n) × (u ≡ leaves n v w) →
+    (r ≡ orElse (tableFault w) n) × (u ≡ leaves (orElse (tableFault w) n) v w)
+judgedRest w v u n f r e z p =
+    let q = refusedSecond (tableFault w) n f n e z refl in
+    (p .0 ∙ q, p .1 ∙ ap (λ i. leaves i v w) q)
+
 -- COMMANDS
 module _ (w : Table) (c : Command) (f : ℕ) (e : f ≡ tableFault w) where
   pub callFirst : (f ≡ 0 → ⊥) → (f ≡ callFault w c) × (w ≡ callLeaves w c)
@@ -36,29 +44,19 @@ module _ (w : Table) (c : Command) (f : ℕ) (e : f ≡ tableFault w) where
       (r : ℕ) (v : Table) → f ≡ 0 → (r ≡ commandFault w c) × (v ≡ commandLeaves w c) →
       (r ≡ callFault w c) × (v ≡ callLeaves w c)
   unfolding callFault callLeaves
-  callRest r v z p =
-      let q = refusedSecond (tableFault w) (commandFault w c) f (commandFault w c) e z refl in
-      (p .0 ∙ q, p .1 ∙ ap (λ n. leaves n (commandOn w c) w) q)
+  callRest r v = judgedRest w (commandOn w c) v (commandFault w c) f r e
 
--- A RING: the table is judged, then the list, and then all is cut
+-- A RING
 module _ (w : Table) (ws : List ℕ) (f : ℕ) (e : f ≡ tableFault w) where
   pub ringFirst : (f ≡ 0 → ⊥) → (f ≡ ringCallFault w ws) × (w ≡ ringCallLeaves w ws)
   unfolding ringCallFault ringCallLeaves
   ringFirst = judgedFirst w (cutAlong (linksOf ws) w) (ringFault w ws) f e
 
-  module _ (z : f ≡ 0) (r : ℕ) (q : r ≡ ringFault w ws) where
-    fault : r ≡ ringCallFault w ws
-    unfolding ringCallFault
-    fault = refusedSecond (tableFault w) (ringFault w ws) f r e z q
-
-    pub ringSecond : (r ≡ 0 → ⊥) → (r ≡ ringCallFault w ws) × (w ≡ ringCallLeaves w ws)
-    unfolding ringCallLeaves
-    ringSecond n = (fault, refused (ringCallFault w ws) r _ w fault n)
-
-    pub ringDone :
-        r ≡ 0 → (v : Table) → v ≡ cutAlong (linksOf ws) w → (0 ≡ ringCallFault w ws) × (v ≡ ringCallLeaves w ws)
-    unfolding ringCallLeaves
-    ringDone y v d = (sym y ∙ fault, accepted (ringCallFault w ws) r (cutAlong (linksOf ws) w) w v fault y d)
+  pub ringRest :
+      (r : ℕ) (v : Table) → f ≡ 0 → (r ≡ ringFault w ws) × (v ≡ ringLeaves w ws) →
+      (r ≡ ringCallFault w ws) × (v ≡ ringCallLeaves w ws)
+  unfolding ringCallFault ringCallLeaves ringLeaves
+  ringRest r v = judgedRest w (cutAlong (linksOf ws) w) v (ringFault w ws) f r e
 
 -- QUESTIONS
 module _ (w : Table) (xs : List ℕ) (f : ℕ) (e : f ≡ tableFault w) where

@@ -12,8 +12,7 @@ pub use parts::Part;
 use parts::count;
 use parts::flood;
 use parts::share;
-use rings::cut::cut_along;
-use rings::judge::ring_fault;
+use rings::cut;
 pub use table::Dimension;
 pub use table::Orbit;
 use table::command;
@@ -101,12 +100,7 @@ pub fn ring_cut(table: &mut [u16], ring: &[u16]) -> u8
     if fault != 0 {
         return fault;
     }
-    let fault = ring_fault(table, ring);
-    if fault != 0 {
-        return fault;
-    }
-    cut_along(table, ring);
-    0
+    cut::ring_cut(table, ring)
 }
 
 // QUESTIONS

@@ -48,7 +48,7 @@ pub record Passed (w : Table) (part : ℕ → List ℕ) (x count : ℕ) (m : Lis
   pub below : (y : ℕ) → 1 ≤ y → y ≤ capacity w → markOf w part y < x → markAt m y ≡ markOf w part y
   pub above : (y : ℕ) → 1 ≤ y → y ≤ capacity w → x ≤ markOf w part y → markAt m y ≡ 0
 
-mapUpFrom : (h : ℕ → ℕ) (a n i : ℕ) → i < n → getD (map h (upFrom a n)) i 0 ≡ h (a + i)
+pub mapUpFrom : (h : ℕ → ℕ) (a n i : ℕ) → i < n → getD (map h (upFrom a n)) i 0 ≡ h (a + i)
 unfolding upFrom
 mapUpFrom h a zero i l = absurd (omega arith)
 mapUpFrom h a (suc n) zero l = rw add-zero

@@ -9,7 +9,7 @@ use Rattle.hypermap.specs.Hypermap.{edge, Hypermap, sameEdge}
 use Rattle.hypermap.specs.Ring.{DoubleLink, allLinks, unicity, continuity, closure, simplicity, pairsDiffer}
 use Rattle.table.specs.Refusals.{noList, apart, sameTab, tieTwice, gapTwice, pathBroken, orElse, unless}
 use Rattle.table.specs.Layout.{Table, hypermapOf}
-use Rattle.table.specs.Commands.{swapped, presenceFault}
+use Rattle.table.specs.Commands.{swapped, presenceFault, leaves}
 
 -- the double-links that a list of words holds; document 01's crossings
 unfoldable pub linksOf : (words : List ℕ) → List DoubleLink
@@ -50,3 +50,6 @@ ringFault w ws =
 unfoldable pub cutAlong : List DoubleLink → Table → Table
 cutAlong [] w = w
 cutAlong (l ∷ ls) w = cutAlong ls (swapped edge (l .first) (l .second) w)
+
+unfoldable pub ringLeaves : Table → (words : List ℕ) → Table
+ringLeaves w ws = leaves (ringFault w ws) (cutAlong (linksOf ws) w) w

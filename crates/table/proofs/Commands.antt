@@ -22,7 +22,7 @@ use Rattle.table.proofs.Swaps.{swapLaw}
 
 -- THE FOUR WORDS OF ONE DART
 module _ (w : Table) (x v : ℕ) (l : 1 ≤ x) (h : x ≤ capacity w) where
-  allLength : length (withAll x v w) ≡ length w
+  pub allLength : length (withAll x v w) ≡ length w
   unfolding withAll
   allLength = simp wordLength
 
@@ -38,10 +38,10 @@ module _ (w : Table) (x v : ℕ) (l : 1 ≤ x) (h : x ≤ capacity w) where
         | vertex ↦ (simp (wordWritten, stillFits), simp (wordWritten, stillFits))
       ]) j i
 
-  here : (j : ℕ) → j < 4 → wordAt (withAll x v w) x j ≡ v
+  pub here : (j : ℕ) → j < 4 → wordAt (withAll x v w) x j ≡ v
   here j i = readAll j i x l ∙ rw (eq-eqb x x refl)
 
-  elsewhere : (j : ℕ) → j < 4 → (y : ℕ) → 1 ≤ y → (y ≡ x → ⊥) → wordAt (withAll x v w) y j ≡ wordAt w y j
+  pub elsewhere : (j : ℕ) → j < 4 → (y : ℕ) → 1 ≤ y → (y ≡ x → ⊥) → wordAt (withAll x v w) y j ≡ wordAt w y j
   elsewhere j i y g d = readAll j i y g ∙ rw (ne-eqb y x d)
 
   stillPresent : (y : ℕ) → isPresent w y ≡ true → (y ≡ x → ⊥) → isPresent (withAll x v w) y ≡ true

@@ -1,0 +1,66 @@
+// Plays standard input on an empty table of 4,096 darts and writes a line for each command: `ok`, the report of 07, or
+// `refused` and the number, and then it ends. Document 01, "Plans to check".
+ghost use Rattle.parts.specs.Inner.{Counted};
+use libc::STDIN_FILENO;
+use parts::count;
+use tape::Instruction;
+use tape::Reading;
+use tape::decode;
+use tape::step;
+
+mod text;
+
+// Bytes that a tape may have.
+const MAX_TAPE: usize = 65536;
+
+// The line of an accepted command.
+fn write_accepted(
+    table: &[u16],
+    instruction: Instruction,
+    out: &mut [u8],
+    at: usize,
+) -> usize
+    requires { ⌜ Counted (now table) ⌝ }
+{
+    match instruction {
+        Instruction::Report => text::write_report(out, at, count::counts(table)),
+        _ => text::write_ok(out, at),
+    }
+}
+
+// The inner step keeps the table sound, so soundness is not judged again for each command.
+fn run(table: &mut [u16], tape: &[u8])
+    requires { ⌜ Counted (now table) ⌝ }
+{
+    let mut out = [0u8; 65536];
+    let mut at = 0;
+    let mut rest = tape;
+    while 0 < rest.len() {
+        let reading = decode::read(rest);
+        let Reading::Whole(instruction, size) = reading else {
+            text::end_refused(&mut out, at, decode::number_of(reading));
+            return;
+        };
+        let fault = step::perform(table, rest, instruction);
+        if fault != 0 {
+            text::end_refused(&mut out, at, fault);
+            return;
+        }
+        at = write_accepted(table, instruction, &mut out, at);
+        at = text::flush_if_full(&out, at);
+        rest = &rest[size..];
+    }
+    text::flush(&out, at);
+}
+
+fn main() {
+    let mut tape = [0u8; 65537];
+    let n = io::read_full(STDIN_FILENO, &mut tape);
+    if MAX_TAPE < n {
+        let mut out = [0u8; 32];
+        text::end_refused(&mut out, 0, table::refusal::WRONG_SIZE);
+        return;
+    }
+    let mut table = [0u16; 16384];
+    run(&mut table, &tape[..n]);
+}

@@ -1,0 +1,78 @@
+-- What the decoder reads: command bytes and their sizes, and numbers one after the other. Assumes nothing.
+use mathlib.Core.Path.{_≡_, refl, ap, sym, _∙_}
+use mathlib.Core.Bool.{true}
+use mathlib.Core.List.{List, [], _∷_, _++_, append-nil}
+use Prim.Native.Nat.{ℕ, zero, suc, _+_, _*_, _≤_, _<_}
+use native.Mathlib.Nat.{zero-add}
+use native.Mathlib.Numerals.{add-one}
+use native.Mathlib.Omega.{arith}
+use lib.Dec.{leb}
+use lib.ListN.{length, getD, take, drop, set, length-set}
+use lib.Seq.{take-all, take-at, drop-length, paste-suc}
+use borrow.Author.Tests.{leb-true, ltb-true}
+use Rattle.hypermap.specs.Lists.{all}
+use Rattle.hypermap.proofs.Basics.Bools.{andLeft, andRight}
+use Rattle.tape.specs.Tapes.{operandBytes, isCommand, commandSize, numberAt, numbersFrom}
+
+-- COMMAND BYTES are indices of the operand table, and its entries are small
+pub commandBelow : (b : ℕ) → isCommand b ≡ true → b < 9
+unfolding isCommand operandBytes
+commandBelow b h = ltb-true b 9 (andRight (leb 1 b) _ h)
+
+entryBelow : (n : ℕ) (l : List ℕ) (i : ℕ) → all (λ x. leb x n) l ≡ true → getD l i 0 ≤ n
+unfolding all
+entryBelow n [] i h = omega arith
+entryBelow n (x ∷ l) zero h = leb-true x n (andLeft (leb x n) _ h)
+entryBelow n (x ∷ l) (suc i) h = entryBelow n l i (andRight (leb x n) _ h)
+
+pub commandSmall : (b : ℕ) → commandSize b ≤ 5
+unfolding commandSize operandBytes all
+commandSmall b = let h = entryBelow 4 operandBytes b refl in omega arith
+
+-- NUMBERS one after the other
+numbersLength : (n i : ℕ) (bs : List ℕ) → length (numbersFrom n i bs) ≡ n
+unfolding numbersFrom
+numbersLength zero i bs = refl
+numbersLength (suc n) i bs = ap suc (numbersLength n (i + 2) bs)
+
+numbersAt : (n i : ℕ) (bs : List ℕ) (k : ℕ) → k < n → getD (numbersFrom n i bs) k 0 ≡ numberAt bs (i + 2 * k)
+unfolding numbersFrom
+numbersAt zero i bs k h = absurd (omega arith)
+numbersAt (suc n) i bs zero h = ap (numberAt bs) (omega arith)
+numbersAt (suc n) i bs (suc k) h = numbersAt n (i + 2) bs k (omega arith) ∙ ap (numberAt bs) (omega arith)
+
+-- the first k words hold the numbers of a tape from its third byte on, and the others what they held
+pub record Fills (tape old words : List ℕ) (k : ℕ) : Type 0 where
+  pub inside : k ≤ length old
+  pub filled : words ≡ take k (numbersFrom (length old) 2 tape) ++ drop k old
+  pub size : length words ≡ length old
+
+pub fillsFirst : {tape words : List ℕ} → Fills tape words words 0
+fillsFirst = record { inside = omega arith; filled = refl; size = refl }
+
+module _ {tape old words : List ℕ} {k : ℕ} (g : Fills tape old words k) where
+  pub fillsOn : {x : ℕ} → k < length words → x ≡ numberAt tape (2 + 2 * k) → Fills tape old (set words k x) (k + 1)
+  fillsOn {x} h e =
+      let l = numbersFrom (length old) 2 tape in
+      let n = numbersLength (length old) 2 tape in
+      let v : x ≡ getD l k 0 = e ∙ sym (numbersAt (length old) 2 tape k (omega arith)) in
+      record {
+        inside = omega arith;
+        filled = rw (g .filled, v, add-one) (simp zero-add at (paste-suc old 0 l k 0 (omega arith) (omega arith)));
+        size = length-set words k x ∙ g .size;
+      }
+
+  pub fillsAll : length words ≤ k → words ≡ numbersFrom (length old) 2 tape
+  fillsAll h =
+      let l = numbersFrom (length old) 2 tape in
+      let n = numbersLength (length old) 2 tape in
+      let e : k ≡ length old = omega arith in
+      g .filled ∙ rw (e, drop-length old, append-nil) (take-all (length old) l (omega arith))
+
+-- n words that hold numbers are a part of an array, and taken from it again
+module _ {n m : ℕ} {words : List ℕ} (tape : List ℕ) (z : n ≡ m) (e : words ≡ numbersFrom m 2 tape) where
+  pub filledLength : length words ≡ n
+  filledLength = ap length e ∙ numbersLength m 2 tape ∙ sym z
+
+  pub filledPart : (rest : List ℕ) → take n (words ++ rest) ≡ numbersFrom n 2 tape
+  filledPart rest = take-at words rest n filledLength ∙ rw z e

@@ -1,0 +1,15 @@
+pub mod Decoding
+pub mod Contents
+pub mod Running
+pub mod Playing
+pub mod Laying
+pub mod Passing
+pub mod OrbitJoins
+pub mod Sizes
+pub mod WholeTape
+pub mod ReadBack
+pub mod Putting
+pub mod Cycles
+pub mod JoinSteps
+pub mod Rejoining
+pub mod Building

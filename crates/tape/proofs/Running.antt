@@ -1,0 +1,71 @@
+-- A run is a fold of its commands, and every accepted command keeps the table sound. Assumes nothing.
+use mathlib.Core.Path.{_≡_, refl, _∙_}
+use mathlib.Core.Bool.{true}
+use mathlib.Core.List.{List, [], _∷_}
+use Prim.Native.Nat.{ℕ, suc}
+use native.Mathlib.Omega.{arith}
+use lib.Dec.{eqb}
+use lib.ListN.{length}
+use borrow.Author.Tests.{eqb-true, eqb-false}
+use Rattle.hypermap.proofs.Basics.Bools.{byCases}
+use Rattle.table.specs.Layout.{Table, isSound}
+use Rattle.table.proofs.Commands.{soundnessLaw}
+use Rattle.rings.proofs.Parting.{acceptedCut}
+use Rattle.tape.specs.Steps.{TapeCommand, changes, reports, cutsRing, stepFault, stepOn}
+use Rattle.tape.specs.Tapes.{contentsOf}
+use Rattle.tape.specs.Runs.{runOver}
+use Rattle.tape.specs.Laws.{IsRun, RunLaw, SoundRunLaw}
+
+-- A FOLD
+run : (cs : List TapeCommand) (w : Table) (n : ℕ) → IsRun w cs n (runOver w cs n)
+unfolding runOver
+run [] w n = record {
+  few = omega arith;
+  accepted = tt;
+  table = refl;
+  stopped = λ c rest e. absurd (let z : 0 ≡ suc (length rest) = cc in omega arith);
+  ended = λ e. refl;
+}
+run (c ∷ cs) w n =
+    byCases (eqb (stepFault w c) 0)
+    (λ t. let r = run cs (stepOn w c) n in rw t (record {
+      few = omega arith;
+      accepted = (eqb-true (stepFault w c) 0 t, r .accepted);
+      table = r .table;
+      stopped = r .stopped;
+      ended = r .ended;
+    }))
+    (λ f. rw f (record {
+      few = omega arith;
+      accepted = tt;
+      table = refl;
+      stopped = λ d rest e. let q : c ≡ d = cc in (rw q, eqb-false (stepFault w c) 0 f);
+      ended = λ e. absurd (let z : 0 ≡ suc (length cs) = cc in omega arith);
+    }))
+
+pub runLaw : RunLaw
+runLaw w cs n = run cs w n
+
+-- SOUND TABLES
+pub stepSound :
+    (w : Table) (c : TapeCommand) → isSound w ≡ true → stepFault w c ≡ 0 →
+    (isSound (stepOn w c) ≡ true) × (length (stepOn w c) ≡ length w)
+stepSound w (changes c) s e = soundnessLaw w s c e
+stepSound w reports s e = (s, refl)
+stepSound w (cutsRing ws) s e = let i = acceptedCut w ws s e in (i .sound, i .size)
+
+runSound :
+    (cs : List TapeCommand) (w : Table) (n : ℕ) → isSound w ≡ true →
+    (isSound (runOver w cs n .table) ≡ true) × (length (runOver w cs n .table) ≡ length w)
+unfolding runOver
+runSound [] w n s = (s, refl)
+runSound (c ∷ cs) w n s =
+    byCases (eqb (stepFault w c) 0)
+    (λ t.
+    let a = stepSound w c s (eqb-true (stepFault w c) 0 t) in
+    let r = runSound cs (stepOn w c) n (a .0) in
+    rw t (r .0, r .1 ∙ a .1))
+    (λ f. rw f (s, refl))
+
+pub soundRunLaw : SoundRunLaw
+soundRunLaw w tape s = runSound (contentsOf tape .commands) w (contentsOf tape .refusal) s

@@ -1,0 +1,106 @@
+use borrow.Author.Needs.{needs}
+use native.Mathlib.Omega.{arith}
+use mathlib.Core.Path.{_∙_}
+use lib.ListN.{length}
+use Rattle.tape.proofs.Playing.{wholeFits, restLess}
+use Rattle.tape.proofs.Playing.{Playing, playingFirst, playingEnd, playingRefused, playingStopped, playingOn}
+use Rattle.tape.proofs.play.play.Statement.{statement}
+use Rattle.tape.proofs.play.play.Tie as tie
+
+abbrev Inv-loop : tie.InvT-loop
+Inv-loop table₀ tape rest₀ accepted₀ table rest accepted = Playing table₀ tape table rest accepted
+
+abbrev μ-loop : tie.MeasureT-loop
+μ-loop table₀ tape rest₀ accepted₀ table rest accepted = length rest
+
+loop-holds : tie.Need-loop-holds Inv-loop μ-loop
+loop-holds c = playingFirst _ _ (c .before .before .pre)
+
+same-length : tie.Need-same-length Inv-loop μ-loop
+same-length c = c .before .before .before .before .before .loop .inv .size
+
+returns : tie.Need-returns Inv-loop μ-loop
+returns c =
+    let e = c .before in
+    let d = e .before .before in
+    let l = d .before .before in
+    playingRefused _ _ _ _ _ (l .loop .inv) (d .before .loop-test .taken) _ (d .read .ensures) _ _
+    (e .enum-told .given .1) (c .number-of .ensures)
+
+perform-requires : tie.Need-perform-requires Inv-loop μ-loop
+perform-requires c κs = c .before .before .before .before .before .before .loop .inv .table
+
+same-length-2 : tie.Need-same-length-2 Inv-loop μ-loop
+same-length-2 c =
+    let p = c .before .before .before in
+    p .perform .kept .0 ∙ p .before .before .before .before .before .before .before .loop .inv .size
+
+returns-2 : tie.Need-returns-2 Inv-loop μ-loop
+returns-2 c =
+    let p = c .before .before .before in
+    let r = p .before .before .before in
+    let d = r .before .before in
+    let l = d .before .before in
+    playingStopped _ _ _ _ _ (l .loop .inv) (d .before .loop-test .taken) _ (d .read .ensures) _ _
+    (r .reading .given .1) _ (p .perform .ensures .0) _ (p .perform .ensures .1) (c .if1 .taken)
+
+sub-rest : tie.Need-sub-rest Inv-loop μ-loop
+sub-rest c =
+    let r = c .before .before .before .before .before .before in
+    wholeFits _ _ (r .before .before .read .ensures) _ _ (r .reading .given .1)
+
+part-rest-start : tie.Need-part-rest-start Inv-loop μ-loop
+part-rest-start c = sub-rest c
+
+add-accepted : tie.Need-add-accepted Inv-loop μ-loop
+add-accepted c =
+    let l = c .before .before .before .before .before .before .before .before .before .before .before in
+    let h = l .loop .inv .few in
+    let s = l .before .before .before .pre .short in
+    omega arith
+
+loop-less : tie.Need-loop-less Inv-loop μ-loop
+loop-less c =
+    let r = c .before .before .before .before .before .before .before in
+    let d = r .before .before in
+    restLess _ _ (d .read .ensures) _ _ (r .reading .given .1) (d .before .loop-test .taken)
+
+loop-again : tie.Need-loop-again Inv-loop μ-loop
+loop-again c =
+    let p = c .before .before .before .before in
+    let r = p .before .before .before in
+    let d = r .before .before in
+    let l = d .before .before in
+    playingOn _ _ _ _ _ (l .loop .inv) (d .before .loop-test .taken) _ (d .read .ensures) _ _
+    (r .reading .given .1) _ (p .perform .ensures .0) _ (p .perform .ensures .1) (c .before .if1 .left)
+
+same-length-3 : tie.Need-same-length-3 Inv-loop μ-loop
+same-length-3 c = c .before .loop .inv .size
+
+returns-3 : tie.Need-returns-3 Inv-loop μ-loop
+returns-3 c = playingEnd _ _ _ _ _ (c .before .loop .inv) (omega (arith, c .loop-test .left))
+
+pub play-spec : {M : Type 1} → statement M
+play-spec =
+    tie.close
+    (tie.spec
+    Inv-loop
+    μ-loop
+    loop-holds
+    (λ c κs. search needs)
+    (λ c. search needs)
+    (λ c. search needs)
+    (λ c κs. search needs)
+    same-length
+    returns
+    perform-requires
+    same-length-2
+    returns-2
+    sub-rest
+    part-rest-start
+    (λ c. search needs)
+    add-accepted
+    loop-less
+    loop-again
+    same-length-3
+    returns-3)

@@ -1,0 +1,53 @@
+use borrow.Author.Needs.{needs}
+use mathlib.Core.Path.{sym, ap, _∙_}
+use Prim.Native.Nat.{_*_}
+use native.Mathlib.Omega.{arith}
+use lib.ListN.{replicate, length-append}
+use lib.Seq.{length-take-le}
+use Rattle.rings.specs.Rings.{ringFault, ringLeaves}
+use Rattle.tape.specs.Tapes.{numbersFrom}
+use Rattle.tape.proofs.Decoding.{filledLength, filledPart}
+use Rattle.tape.proofs.step.ring_cut.Statement.{statement}
+use Rattle.tape.proofs.step.ring_cut.Tie as tie
+
+slice-aggregate-read-numbers : tie.Need-slice-aggregate-read-numbers
+slice-aggregate-read-numbers c = sym (length-take-le _ (replicate 510 0) (omega arith))
+
+read-numbers-requires : tie.Need-read-numbers-requires
+read-numbers-requires c κs = let e = slice-aggregate-read-numbers c in omega arith
+
+array-share-prefix-words : tie.Need-array-share-prefix-words
+array-share-prefix-words c =
+    let r = c .before .before in
+    let e = filledLength _ (slice-aggregate-read-numbers (r .before)) (r .read-numbers .ensures) in
+    simp length-append (omega arith)
+
+slice-aggregate-ring-cut : tie.Need-slice-aggregate-ring-cut
+slice-aggregate-ring-cut c = sym (length-take-le _ _ (array-share-prefix-words (c .before)))
+
+returns : tie.Need-returns
+returns c =
+    let d = c .before .before in
+    let r = d .before .before .before .before in
+    let w = r .before .before in
+    let s = w .before .before .before in
+    let e = filledPart _ (slice-aggregate-read-numbers (r .before)) (r .read-numbers .ensures) _ ∙
+    ap (λ k. numbersFrom (2 * k) 2 (s .args .tape .now)) (w .wide .ensures) in (
+      d .ring-cut .ensures .0 ∙ ap (ringFault (s .args .table .now)) e,
+      d .ring-cut .ensures .1 ∙ ap (ringLeaves (s .args .table .now)) e,
+    )
+
+pub ring-cut-spec : {M : Type 1} → statement M
+ring-cut-spec =
+    tie.close
+    (tie.spec
+    (λ c κs. search needs)
+    (λ c. search needs)
+    (λ c. search needs)
+    slice-aggregate-read-numbers
+    read-numbers-requires
+    array-share-prefix-words
+    slice-aggregate-ring-cut
+    (λ c κs. search needs)
+    (λ c. search needs)
+    returns)

@@ -1,0 +1,95 @@
+// The decoder: reads the first command of a tape whole, before any operand is judged.
+ghost use mathlib.Core.Path.{_≡_};
+ghost use mathlib.Core.Bool.{true};
+ghost use Prim.Native.Nat.{_+_, _*_, _≤_};
+ghost use lib.ListN.{getD, length};
+ghost use Rattle.tape.specs.Tapes.{byteOf, isCommand, numberAt, numbersFrom, sizeOf, commandOf};
+ghost use Rattle.tape.specs.Inner.{meaning, numberOf, Reads};
+use crate::Instruction;
+use crate::Reading;
+use crate::operands;
+use table::Dimension;
+use table::refusal;
+
+// A byte of the tape, 0 behind its end.
+fn byte_at(tape: &[u8], i: usize) -> u8
+    ensures { λ r. ⌜ r ≡ getD (now (tape .entry)) i 0 ⌝ }
+{
+    if i < tape.len() { tape[i] } else { 0 }
+}
+
+// The number in two bytes, low byte first.
+fn number_at(tape: &[u8], i: usize) -> u16
+    requires { ⌜ i ≤ 65536 ⌝ }
+    ensures { λ r. ⌜ r ≡ numberAt (now (tape .entry)) i ⌝ }
+{
+    byte_at(tape, i) as u16 + 256 * byte_at(tape, i + 1) as u16
+}
+
+// The bytes of the first command.
+fn size_of(tape: &[u8], byte: u8) -> usize
+    requires { ⌜ (byte ≡ byteOf (now tape)) × (isCommand byte ≡ true) ⌝ }
+    ensures { λ r. ⌜ r ≡ sizeOf (now (tape .entry)) ⌝ }
+{
+    let size = operands::command_size(byte);
+    if byte == operands::RING_CUT {
+        size + 4 * operands::wide(byte_at(tape, 1))
+    } else {
+        size
+    }
+}
+
+// The first command. Its operands are numbers here, whatever they are.
+fn instruction_at(tape: &[u8], byte: u8) -> Instruction
+    requires { ⌜ byte ≡ byteOf (now tape) ⌝ }
+    ensures { λ r. ⌜ meaning (now (tape .entry)) r ≡ commandOf (now (tape .entry)) ⌝ }
+{
+    let a = number_at(tape, 1);
+    let b = number_at(tape, 3);
+    match byte {
+        1 => Instruction::Put(a),
+        2 => Instruction::TakeOut(a),
+        3 => Instruction::Join(Dimension::Edge, a, b),
+        4 => Instruction::Cut(Dimension::Edge, a, b),
+        5 => Instruction::Join(Dimension::Vertex, a, b),
+        6 => Instruction::Cut(Dimension::Vertex, a, b),
+        7 => Instruction::Report,
+        _ => Instruction::RingCut(byte_at(tape, 1)),
+    }
+}
+
+pub fn read(tape: &[u8]) -> Reading
+    ensures { λ r. ⌜ Reads (now (tape .entry)) r ⌝ }
+{
+    let byte = byte_at(tape, 0);
+    if !operands::is_command(byte) {
+        return Reading::Refused(refusal::UNKNOWN_COMMAND);
+    }
+    let size = size_of(tape, byte);
+    if tape.len() < size {
+        return Reading::Refused(refusal::TORN_COMMAND);
+    }
+    Reading::Whole(instruction_at(tape, byte), size)
+}
+
+// The number of a refused reading, 0 of a whole one.
+pub fn number_of(reading: Reading) -> u8
+    ensures { λ r. ⌜ r ≡ numberOf reading ⌝ }
+{
+    match reading {
+        Reading::Whole(_, _) => 0,
+        Reading::Refused(n) => n,
+    }
+}
+
+// The numbers of a tape from its third byte on, as many as there are words to fill.
+pub fn read_numbers(tape: &[u8], words: &mut [u16])
+    requires { ⌜ length (now words) ≤ 4096 ⌝ }
+    ensures { λ _. ⌜ now (words .exit) ≡ numbersFrom (length (now (words .entry))) 2 (now (tape .entry)) ⌝ }
+{
+    let mut k = 0;
+    while k < words.len() {
+        words[k] = number_at(tape, 2 + 2 * k);
+        k += 1;
+    }
+}

@@ -1,0 +1,38 @@
+// Tapes of commands: the operand table, the decoder, one step, the player and the writer. Inner functions: they may
+// require a sound table.
+
+pub mod decode;
+pub mod operands;
+pub mod play;
+pub mod step;
+pub mod write;
+
+use table::Dimension;
+
+// A command of a tape. A ring has its number of double-links here, and its darts on the tape.
+pub enum Instruction {
+    Put(u16),
+    TakeOut(u16),
+    Join(Dimension, u16, u16),
+    Cut(Dimension, u16, u16),
+    Report,
+    RingCut(u8),
+}
+
+// What the decoder answers: a command read whole with the number of its bytes, or refusal 15 or 16.
+pub enum Reading {
+    Whole(Instruction, usize),
+    Refused(u8),
+}
+
+// What a run answers: 0 or the refusal that stopped it, and how many commands were accepted.
+pub struct Run {
+    pub number: u8,
+    pub accepted: u32,
+}
+
+// What the writer answers: 0 and the number of bytes, or refusal 14.
+pub struct Written {
+    pub number: u8,
+    pub count: u32,
+}

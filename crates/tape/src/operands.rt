@@ -1,0 +1,36 @@
+// The bytes of commands: one table, for the decoder and the writer.
+ghost use mathlib.Core.Path.{_≡_};
+ghost use mathlib.Core.Bool.{true};
+ghost use Rattle.tape.specs.Tapes.{isCommand, commandSize};
+
+// Operand bytes by command byte. No command has the byte 0; a ring's entry is the one byte before its pairs.
+const OPERAND_BYTES: [u8; 9] = [0, 2, 2, 4, 4, 4, 4, 0, 1];
+
+pub const PUT: u8 = 1;
+
+pub const EDGE_JOIN: u8 = 3;
+
+pub const VERTEX_JOIN: u8 = 5;
+
+pub const RING_CUT: u8 = 8;
+
+pub fn wide(x: u8) -> usize
+    ensures { λ r. ⌜ r ≡ x ⌝ }
+{
+    x as usize
+}
+
+pub fn is_command(byte: u8) -> bool
+    ensures { λ r. ⌜ r ≡ isCommand byte ⌝ }
+{
+    (1 <= byte) & (wide(byte) < OPERAND_BYTES.len())
+}
+
+// A command's own byte and its operand bytes.
+pub fn command_size(byte: u8) -> usize
+    requires { ⌜ isCommand byte ≡ true ⌝ }
+    ensures { λ r. ⌜ r ≡ commandSize byte ⌝ }
+{
+    let at = wide(byte);
+    1 + wide(OPERAND_BYTES[at])
+}

@@ -1,0 +1,43 @@
+// One command of a tape on a sound table. What it leaves is sound again, so a run judges soundness once.
+ghost use mathlib.Core.Path.{_≡_};
+ghost use Prim.Native.Nat.{_*_};
+ghost use Rattle.parts.specs.Inner.{Counted};
+ghost use Rattle.rings.specs.Rings.{ringFault, ringLeaves};
+ghost use Rattle.tape.specs.Tapes.{numbersFrom};
+ghost use Rattle.tape.specs.Steps.{stepFault, stepLeaves};
+ghost use Rattle.tape.specs.Inner.{meaning};
+use crate::Instruction;
+use crate::decode;
+use crate::operands;
+use rings::cut;
+use table::command;
+
+// A ring of n double-links, whose darts stand behind the count on the tape.
+fn ring_cut(table: &mut [u16], tape: &[u8], n: u8) -> u8
+    requires { ⌜ Counted (now table) ⌝ }
+    ensures { λ r. ⌜ r ≡ ringFault (now (table .entry)) (numbersFrom (2 * n) 2 (now (tape .entry))) ⌝ }
+    ensures table { λ r. ⌜ now (table .exit) ≡
+        ringLeaves (now (table .entry)) (numbersFrom (2 * n) 2 (now (tape .entry))) ⌝ }
+{
+    let mut words = [0u16; 510];
+    let end = 2 * operands::wide(n);
+    decode::read_numbers(tape, &mut words[..end]);
+    cut::ring_cut(table, &words[..end])
+}
+
+// Answers the command's refusal, or makes its change and answers 0. A report is accepted and changes nothing.
+pub fn perform(table: &mut [u16], tape: &[u8], instruction: Instruction) -> u8
+    requires { ⌜ Counted (now table) ⌝ }
+    ensures { λ r. ⌜ r ≡ stepFault (now (table .entry)) (meaning (now (tape .entry)) instruction) ⌝ }
+    ensures table { λ r. ⌜ now (table .exit) ≡
+        stepLeaves (now (table .entry)) (meaning (now (tape .entry)) instruction) ⌝ }
+{
+    match instruction {
+        Instruction::Put(x) => command::put(table, x),
+        Instruction::TakeOut(x) => command::take_out(table, x),
+        Instruction::Join(d, a, b) => command::join(table, d, a, b),
+        Instruction::Cut(d, a, b) => command::cut(table, d, a, b),
+        Instruction::Report => 0,
+        Instruction::RingCut(n) => ring_cut(table, tape, n),
+    }
+}
