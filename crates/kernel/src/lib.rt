@@ -5,8 +5,11 @@ ghost use Rattle.table.specs.Commands.{puts, takesOut, joins, cuts};
 ghost use Rattle.table.specs.Inner.{dimensionOf};
 ghost use Rattle.kernel.specs.Calls.{callFault, callLeaves, reportOf, sameAnswer, roundAnswer, roundLeaves};
 ghost use Rattle.kernel.specs.Calls.{marksAnswer, marksLeaves, lookOf, ringCallFault, ringCallLeaves};
+ghost use Rattle.tape.specs.Runs.{toldOf};
+ghost use Rattle.kernel.specs.Tapes.{playOutcome, tapeAnswer, tapeLeaves, screenFault, screenLeaves};
 
 mod judge;
+mod screen;
 
 pub use parts::Part;
 use parts::count;
@@ -19,6 +22,9 @@ use table::command;
 use table::refusal;
 use table::walk;
 use table::words;
+pub use tape::Run;
+use tape::play as player;
+use tape::write;
 
 // What a report answers: a refusal and zeros, or 0 and the numbers in document 01's order.
 pub struct Totals {
@@ -39,6 +45,12 @@ pub struct Answer {
     pub yes: bool,
     pub count: u32,
 }
+
+// Bytes that a tape may have.
+const MAX_TAPE: usize = 65536;
+
+// Bytes that the screen's buffer has at least.
+const SCREEN_ROOM: usize = 53278;
 
 // COMMANDS: each answers 0, or its refusal, and then no word has changed.
 
@@ -207,4 +219,63 @@ pub fn look<'a>(table: &'a [u16], x: u16) -> &'a [u16]
     } else {
         &table[..0]
     }
+}
+
+// TAPES
+
+// Plays a tape command by command. The first refused one stops the run, and the effect of those before it stays.
+pub fn play(table: &mut [u16], tape: &[u8]) -> Run
+    ensures { λ r. ⌜ r ≡ toldOf (playOutcome (now (table .entry)) (now (tape .entry))) ⌝ }
+    ensures table { λ r. ⌜ now (table .exit) ≡ playOutcome (now (table .entry)) (now (tape .entry)) .table ⌝ }
+{
+    if MAX_TAPE < tape.len() {
+        return Run {
+            number: refusal::WRONG_SIZE,
+            accepted: 0,
+        };
+    }
+    let fault = judge::table_fault(table);
+    if fault != 0 {
+        return Run {
+            number: fault,
+            accepted: 0,
+        };
+    }
+    player::play(table, tape)
+}
+
+// The canonical tape of the table into out; the count is its bytes.
+pub fn write_tape(table: &[u16], out: &mut [u8]) -> Answer
+    ensures { λ r. ⌜ r ≡ tapeAnswer (now (table .entry)) (now (out .entry)) ⌝ }
+    ensures out { λ r. ⌜ now (out .exit) ≡ tapeLeaves (now (table .entry)) (now (out .entry)) ⌝ }
+{
+    let fault = judge::table_fault(table);
+    if fault != 0 {
+        return judge::refused(fault);
+    }
+    let tape = write::write_tape(table, out);
+    Answer {
+        number: tape.number,
+        yes: false,
+        count: tape.count,
+    }
+}
+
+// The planning screen's call: plays a tape on an empty table of 4,096 darts and writes ten numbers and the rewritten
+// tape into out. include/lotskadi.h tells C what each byte is.
+#[no_mangle]
+pub extern "C" fn lotskadi_screen(tape: &[u8], out: &mut [u8]) -> u8
+    ensures { λ r. ⌜ r ≡ screenFault (now (tape .entry)) (now (out .entry)) ⌝ }
+    ensures out { λ r. ⌜ now (out .exit) ≡ screenLeaves (now (tape .entry)) (now (out .entry)) ⌝ }
+{
+    if MAX_TAPE < tape.len() {
+        return refusal::WRONG_SIZE;
+    }
+    if out.len() < SCREEN_ROOM {
+        return refusal::SHORT_ROOM;
+    }
+    let mut table = [0u16; 16384];
+    let run = player::play(&mut table, tape);
+    screen::write_answer(&table, run, out);
+    0
 }

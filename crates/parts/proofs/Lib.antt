@@ -4,4 +4,5 @@ pub mod Walking
 pub mod Visits
 pub mod Flooding
 pub mod Signed
+pub mod Magnitudes
 pub mod Reporting

@@ -4,6 +4,7 @@ pub mod count;
 pub mod flood;
 pub mod marks;
 pub mod share;
+pub mod sign;
 
 // The numbers of a report, in document 01's order: tabs, ties, cells, gaps, pieces, characteristic, handles, lifts.
 pub struct Counts {

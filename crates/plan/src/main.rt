@@ -29,38 +29,37 @@ fn write_accepted(
 }
 
 // The inner step keeps the table sound, so soundness is not judged again for each command.
-fn run(table: &mut [u16], tape: &[u8])
+fn run(table: &mut [u16], tape: &[u8], out: &mut [u8])
     requires { ⌜ Counted (now table) ⌝ }
 {
-    let mut out = [0u8; 65536];
     let mut at = 0;
     let mut rest = tape;
     while 0 < rest.len() {
         let reading = decode::read(rest);
         let Reading::Whole(instruction, size) = reading else {
-            text::end_refused(&mut out, at, decode::number_of(reading));
+            text::end_refused(out, at, decode::number_of(reading));
             return;
         };
         let fault = step::perform(table, rest, instruction);
         if fault != 0 {
-            text::end_refused(&mut out, at, fault);
+            text::end_refused(out, at, fault);
             return;
         }
-        at = write_accepted(table, instruction, &mut out, at);
-        at = text::flush_if_full(&out, at);
+        at = write_accepted(table, instruction, out, at);
+        at = text::flush_if_full(out, at);
         rest = &rest[size..];
     }
-    text::flush(&out, at);
+    text::flush(out, at);
 }
 
 fn main() {
     let mut tape = [0u8; 65537];
+    let mut out = [0u8; 65536];
     let n = io::read_full(STDIN_FILENO, &mut tape);
     if MAX_TAPE < n {
-        let mut out = [0u8; 32];
         text::end_refused(&mut out, 0, table::refusal::WRONG_SIZE);
         return;
     }
     let mut table = [0u16; 16384];
-    run(&mut table, &tape[..n]);
+    run(&mut table, &tape[..n], &mut out);
 }

@@ -2,6 +2,7 @@
 // left out, so no function here requires any: flush_if_full leaves room for the longest line.
 use libc::STDOUT_FILENO;
 use parts::Counts;
+use parts::sign::magnitude;
 
 // How full a buffer is allowed to be before the next line.
 const FULL: usize = 65000;
@@ -39,11 +40,11 @@ fn write_next(out: &mut [u8], at: usize, n: u32) -> usize {
 
 // A space, and a number with a minus in front where it is negative.
 fn write_signed(out: &mut [u8], at: usize, n: i32) -> usize {
-    if 0 <= n {
-        write_next(out, at, n as u32)
-    } else {
+    if n < 0 {
         let next = write_bytes(out, at, b" -");
-        write_number(out, next, (0 - n as i64) as u64)
+        write_number(out, next, magnitude(n) as u64)
+    } else {
+        write_next(out, at, magnitude(n))
     }
 }
 

@@ -12,3 +12,4 @@ pub mod Filling
 pub mod Swaps
 pub mod Commands
 pub mod OnlyTables
+pub mod Zeros

@@ -3,11 +3,10 @@
 use mathlib.Core.Path.{_≡_, refl, sym, _∙_}
 use mathlib.Core.Bool.{true, false, _||_}
 use mathlib.Core.List.{List, [], _∷_, map}
-use mathlib.Core.Logic.{inl}
-use Prim.Native.Nat.{ℕ, zero, suc, _≤_}
+use Prim.Native.Nat.{ℕ, _≤_}
 use native.Mathlib.Omega.{arith}
 use lib.Dec.{eqb}
-use lib.ListN.{length, getD, replicate, length-replicate}
+use lib.ListN.{length, replicate, length-replicate}
 use borrow.Author.Tests.{eqb-true, eqb-false, le-leb}
 use Rattle.hypermap.specs.Lists.{among, distinct}
 use Rattle.hypermap.specs.Hypermap.{Dimension}
@@ -18,8 +17,9 @@ use Rattle.table.specs.Refusals.{orElse, unless}
 use Rattle.table.specs.Layout.{Table, capacity, numbers, wordAt, nextWord, isPresent, isSound, hypermapOf}
 use Rattle.table.specs.Commands.{withAll, puts, commandFault}
 use Rattle.table.proofs.Numbers.{numbersRising}
-use Rattle.table.proofs.Soundness.{low, high, firstWord, presentFrom, memPresent, soundFrom}
+use Rattle.table.proofs.Soundness.{low, high, firstWord, presentFrom, memPresent}
 use Rattle.table.proofs.Writing.{nextSmall}
+use Rattle.table.proofs.Zeros.{zerosSound, zerosNone}
 use Rattle.table.proofs.Commands.{allLength, here, elsewhere, soundnessLaw}
 use Rattle.tape.specs.Steps.{changes}
 use Rattle.tape.specs.Canonical.{putsOf}
@@ -90,23 +90,6 @@ putting :
 putting w [] v p = (tt, p)
 putting w (x ∷ xs) v p =
     let r = putting w xs (withAll x x v) (dartPut w v x xs p) in ((dartAccepted w v x xs p, r .0), r .1)
-
--- A TABLE OF ZEROS
-zeroAt : (n i : ℕ) → _≡_ {A = ℕ} (getD (replicate n 0) i 0) 0
-zeroAt zero i = refl
-zeroAt (suc n) zero = refl
-zeroAt (suc n) (suc i) = zeroAt n i
-
-module _ (n : ℕ) where
-  zeroWord : (x j : ℕ) → wordAt (replicate n 0) x j ≡ 0
-  unfolding wordAt
-  zeroWord x j = zeroAt n _
-
-  zerosSound : isSound (replicate n 0) ≡ true
-  zerosSound = soundFrom (replicate n 0) (λ x l h. inl (λ k. (zeroWord x _, zeroWord x _)))
-
-  zerosNone : (x : ℕ) → isPresent (replicate n 0) x ≡ false
-  zerosNone x = refuted _ (λ p. omega (arith, firstWord (replicate n 0) x p, zeroWord x 0))
 
 -- ALL PUTS
 pub record PutAll (w v : Table) : Type 0 where

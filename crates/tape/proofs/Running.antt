@@ -8,10 +8,11 @@ use lib.Dec.{eqb}
 use lib.ListN.{length}
 use borrow.Author.Tests.{eqb-true, eqb-false}
 use Rattle.hypermap.proofs.Basics.Bools.{byCases}
+use Rattle.table.specs.Commands.{leaves}
 use Rattle.table.specs.Layout.{Table, isSound}
 use Rattle.table.proofs.Commands.{soundnessLaw}
 use Rattle.rings.proofs.Parting.{acceptedCut}
-use Rattle.tape.specs.Steps.{TapeCommand, changes, reports, cutsRing, stepFault, stepOn}
+use Rattle.tape.specs.Steps.{TapeCommand, changes, reports, cutsRing, stepFault, stepOn, stepLeaves}
 use Rattle.tape.specs.Tapes.{contentsOf}
 use Rattle.tape.specs.Runs.{runOver}
 use Rattle.tape.specs.Laws.{IsRun, RunLaw, SoundRunLaw}
@@ -53,6 +54,16 @@ pub stepSound :
 stepSound w (changes c) s e = soundnessLaw w s c e
 stepSound w reports s e = (s, refl)
 stepSound w (cutsRing ws) s e = let i = acceptedCut w ws s e in (i .sound, i .size)
+
+-- whether it is accepted or not
+pub leavesSound :
+    (w : Table) (c : TapeCommand) → isSound w ≡ true →
+    (isSound (stepLeaves w c) ≡ true) × (length (stepLeaves w c) ≡ length w)
+unfolding leaves
+leavesSound w c s =
+    byCases (eqb (stepFault w c) 0)
+    (λ t. rw t (stepSound w c s (eqb-true (stepFault w c) 0 t)))
+    (λ f. rw f (s, refl))
 
 runSound :
     (cs : List TapeCommand) (w : Table) (n : ℕ) → isSound w ≡ true →

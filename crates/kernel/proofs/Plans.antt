@@ -1,0 +1,25 @@
+-- Document 01's plans to check hold, every row of their table: the checker computes it. Assumes nothing.
+use mathlib.Core.Path.{refl}
+use Rattle.hypermap.specs.Lists.{all, among, keep, leastOf}
+use Rattle.hypermap.specs.Hypermap.{walkFrom, spread, spreadBy}
+use Rattle.hypermap.specs.Ring.{allLinks, noTwo, lastOf, continuity}
+use Rattle.table.specs.Refusals.{orElse, unless}
+use Rattle.table.specs.Layout.{upFrom, wordAt, isPresent, isAbsent, isLinked, dartFits, isSound}
+use Rattle.table.specs.Commands.{withWord, withAll, swapped, presenceFault, isTogether, leaves}
+use Rattle.parts.specs.Marks.{markOf, marksOf}
+use Rattle.parts.specs.Counts.{countsOf}
+use Rattle.rings.specs.Rings.{linksOf, isList, pairsTogether, pathCloses, conditionFault, ringFault, cutAlong}
+use Rattle.tape.specs.Tapes.{tapeBytes}
+use Rattle.tape.specs.Canonical.{orbitJoins, joinsOver, putsOf, tapeOf}
+use Rattle.kernel.specs.Calls.{sizeFits, tableFault, callFault, callLeaves, ringCallFault, ringCallLeaves}
+use Rattle.kernel.specs.Calls.{reportOf}
+use Rattle.kernel.specs.Tapes.{emptyTable}
+use Rattle.kernel.specs.Plans.{PlansLaw, sameNumbers, facesFit, rowFits, allFit, rows}
+
+pub plansLaw : PlansLaw
+unfolding all among keep leastOf walkFrom spread spreadBy allLinks noTwo lastOf continuity orElse unless upFrom wordAt
+  isPresent isAbsent isLinked dartFits isSound withWord withAll swapped presenceFault isTogether leaves markOf marksOf
+  countsOf linksOf isList pairsTogether pathCloses conditionFault ringFault cutAlong tapeBytes orbitJoins joinsOver putsOf
+  tapeOf sizeFits tableFault callFault callLeaves ringCallFault ringCallLeaves reportOf emptyTable sameNumbers facesFit
+  rowFits allFit rows
+plansLaw = refl

@@ -1,0 +1,88 @@
+-- How the calls about tapes answer: the tape is judged, then the table, and then the run or the writer answers. Assumes
+-- nothing.
+use mathlib.Core.Path.{_≡_, refl, ap, sym, _∙_}
+use mathlib.Core.Bool.{true, false}
+use mathlib.Core.List.{List}
+use Prim.Native.Nat.{ℕ, _≤_, _<_}
+use native.Mathlib.Omega.{arith}
+use lib.Dec.{leb}
+use lib.ListN.{length}
+use borrow.Author.Tests.{eq-eqb, ne-eqb, le-leb, lt-leb, leb-true, leb-false}
+use Rattle.hypermap.proofs.Basics.Bools.{byCases}
+use Rattle.table.specs.Refusals.{wrongSize, shortRoom, unless}
+use Rattle.table.specs.Layout.{Table}
+use Rattle.table.proofs.Faults.{refusedFirst, refusedSecond}
+use Rattle.tape.specs.Runs.{Outcome, stopped, runOf, toldOf}
+use Rattle.tape.specs.Canonical.{tapeOf}
+use Rattle.tape.specs.Inner.{writtenOf, writtenLeaves}
+use Rattle.tape.specs.declared.Run.{Run}
+use Rattle.tape.specs.declared.Written.{Written}
+use Rattle.kernel.specs.Calls.{tableFault, listLeaves}
+use Rattle.kernel.specs.Tapes.{maxTape, tapeFault, playFault, playOutcome, tapeAnswer, tapeLeaves}
+use Rattle.kernel.specs.declared.Answer.{Answer}
+use Rattle.kernel.proofs.Answering.{listShort, listWritten}
+
+-- THE TAPE's size
+pub tapeLong : (bs : List ℕ) → maxTape < length bs → wrongSize ≡ tapeFault bs
+unfolding tapeFault unless
+tapeLong bs l = rw (lt-leb (length bs) maxTape l)
+
+pub tapeShort : (bs : List ℕ) → length bs ≤ maxTape → tapeFault bs ≡ 0
+unfolding tapeFault unless
+tapeShort bs l = rw (le-leb (length bs) maxTape l)
+
+-- A RUN
+abbrev Answers : (w : Table) (bs : List ℕ) → Outcome → Type 0
+Answers w bs o = (toldOf o ≡ toldOf (playOutcome w bs)) × (o .table ≡ playOutcome w bs .table)
+
+answered : (w : Table) (bs : List ℕ) (o : Outcome) → o ≡ playOutcome w bs → Answers w bs o
+answered w bs o e = (ap toldOf e, ap (λ p. p .table) e)
+
+stops :
+    (w : Table) (bs : List ℕ) (f : ℕ) → f ≡ playFault w bs → (f ≡ 0 → ⊥) → Answers w bs (stopped f w)
+unfolding playOutcome
+stops w bs f e z =
+    answered w bs (stopped f w) (rw (ne-eqb (playFault w bs) 0 (λ q. z (e ∙ q))) (ap (λ n. stopped n w) e))
+
+module _ (w : Table) (bs : List ℕ) where
+  pub playLong : maxTape < length bs → Answers w bs (stopped wrongSize w)
+  unfolding playFault
+  playLong l =
+      stops w bs wrongSize (refusedFirst (tapeFault bs) (tableFault w) wrongSize (tapeLong bs l) (λ e. absurd (omega arith)))
+      (λ e. absurd (omega arith))
+
+  module _ (l : length bs ≤ maxTape) (f : ℕ) (e : f ≡ tableFault w) where
+    fault : f ≡ playFault w bs
+    unfolding playFault
+    fault = refusedSecond (tapeFault bs) (tableFault w) (tapeFault bs) f refl (tapeShort bs l) e
+
+    pub playBent : (f ≡ 0 → ⊥) → Answers w bs (stopped f w)
+    playBent z = stops w bs f fault z
+
+    pub playRun :
+        f ≡ 0 → (r : Run) (v : Table) → (r ≡ toldOf (runOf w bs)) × (v ≡ runOf w bs .table) →
+        (r ≡ toldOf (playOutcome w bs)) × (v ≡ playOutcome w bs .table)
+    unfolding playOutcome
+    playRun z r v p = rw (eq-eqb (playFault w bs) 0 (sym fault ∙ z)) p
+
+-- A WRITTEN TAPE
+pub tapeWritten :
+    (w : Table) (o : List ℕ) (f : ℕ) → f ≡ tableFault w → f ≡ 0 → (t : Written) (v : List ℕ) →
+    (t ≡ writtenOf (tapeOf w) o) × (v ≡ writtenLeaves (tapeOf w) o) →
+    (record { number = t .number; yes = false; count = t .count } ≡ tapeAnswer w o) × (v ≡ tapeLeaves w o)
+unfolding writtenOf writtenLeaves
+tapeWritten w o f e z t v p =
+    byCases (leb (length (tapeOf w)) (length o))
+    (λ y.
+    let q : t ≡ record { number = 0; count = length (tapeOf w) } = rw y at (p .0) in
+    let a = listWritten (tableFault w) (tapeOf w) o f e (length (tapeOf w)) v z (leb-true _ _ y) refl (rw y at (p .1)) in
+    (ap told q ∙ a .0, a .1))
+    (λ n.
+    let q : t ≡ record { number = shortRoom; count = 0 } = rw n at (p .0) in
+    let s : v ≡ o = rw n at (p .1) in
+    let a = listShort (tableFault w) (tapeOf w) o f e (told (record { number = shortRoom; count = 0 })) refl z
+    (leb-false _ _ n) in
+    (ap told q ∙ a .0, s ∙ a .1))
+  where
+    told : Written → Answer
+    told t = record { number = t .number; yes = false; count = t .count }

@@ -1,0 +1,42 @@
+use borrow.Author.Needs.{needs}
+use native.Mathlib.Omega.{arith}
+use Rattle.kernel.proofs.Screening.{screenLong, screenShort, screenGiven, emptyIs, emptyPlayable, screenReady}
+use Rattle.kernel.proofs.lotskadi_screen.Statement.{statement}
+use Rattle.kernel.proofs.lotskadi_screen.Tie as tie
+
+returns : tie.Need-returns
+returns c = screenLong _ _ (c .if1 .taken)
+
+returns-2 : tie.Need-returns-2
+returns-2 c = screenShort _ _ (c .before .if1 .left) (c .if2 .taken)
+
+play-requires : tie.Need-play-requires
+play-requires c κs = emptyPlayable 4096 _ (omega arith) (c .before .before .if1 .left)
+
+write-answer-requires : tie.Need-write-answer-requires
+write-answer-requires c κs =
+    let p = c .before .before .before in
+    let l = p .before .before in
+    let s = l .before .before .before .before in
+    screenReady 4096 (s .args .tape .now) _ _ (omega arith) (l .if2 .left) (p .play .ensures .1)
+
+returns-3 : tie.Need-returns-3
+returns-3 c =
+    let a = c .before .before in
+    let p = a .before .before .before .before in
+    let l = p .before .before in
+    screenGiven _ _ _ _ _ _ (l .before .if1 .left) (l .if2 .left) (emptyIs 4096) (p .play .ensures .0)
+    (p .play .ensures .1) (a .write-answer .ensures)
+
+pub lotskadi-screen-spec : {M : Type 1} → statement M
+lotskadi-screen-spec =
+    tie.close
+    (tie.spec
+    returns
+    returns-2
+    (λ c. search needs)
+    play-requires
+    (λ c. search needs)
+    write-answer-requires
+    (λ c. search needs)
+    returns-3)
