@@ -5,19 +5,18 @@ use mathlib.Core.List.{List, [], _∷_, _++_, append-assoc, append-nil}
 use Prim.Native.Nat.{ℕ, _+_, _*_, _-_, _≤_, _<_}
 use native.Mathlib.Numerals.{add-one}
 use native.Mathlib.Omega.{arith}
-use lib.ListN.{length, getD, take, drop, set, replicate, length-append, length-drop, length-replicate}
+use lib.ListN.{length, getD, take, drop, set, replicate, length-append, length-drop}
 use lib.Seq.{length-take-le, take-length, drop-length, take-all, take-suc, take-at, drop-at, drop-drop}
 use borrow.Author.Tests.{le-leb, lt-leb}
 use Rattle.table.specs.Refusals.{wrongSize, shortRoom, orElse, unless}
-use Rattle.table.specs.Layout.{Table, wordsPerDart, capacity, numbers}
-use Rattle.table.proofs.Zeros.{zerosSound}
+use Rattle.table.specs.Layout.{Table, wordsPerDart, numbers}
 use Rattle.parts.specs.Counts.{countsOf}
 use Rattle.parts.specs.declared.Counts.{Counts}
 use Rattle.tape.specs.Runs.{runOf, toldOf}
 use Rattle.tape.specs.Canonical.{tapeOf}
 use Rattle.tape.specs.Inner.{Playable, HasRoom, Lays, written, writtenLeaves}
 use Rattle.tape.specs.declared.Run.{Run}
-use Rattle.tape.proofs.Running.{soundRunLaw}
+use Rattle.tape.proofs.Running.{zerosCounted, soundRunLaw}
 use Rattle.tape.proofs.Laying.{laysNone, laysThen, laysWhole}
 use Rattle.kernel.specs.Calls.{maxCapacity}
 use Rattle.kernel.specs.Tapes.{maxTape, tapeFault, screenRoom, screenFault, screenBytes, screenLeaves}
@@ -141,23 +140,15 @@ pub emptyIs : (n : ℕ) → replicate (wordsPerDart * n) 0 ≡ emptyTable n
 unfolding emptyTable
 emptyIs n = refl
 
-emptyRoom : (n : ℕ) → capacity (replicate (wordsPerDart * n) 0) ≡ n
-emptyRoom n = rw length-replicate (omega arith)
-
 pub emptyPlayable :
     (n : ℕ) (bs : List ℕ) → n ≤ 4096 → length bs ≤ maxTape → Playable (replicate (wordsPerDart * n) 0) bs
-emptyPlayable n bs h l = record {
-  table = record { sound = zerosSound (wordsPerDart * n); room = rw emptyRoom h };
-  short = l;
-}
+emptyPlayable n bs h l = record { table = zerosCounted n h; short = l }
 
 -- a run on it leaves a sound table of its size
 pub screenReady :
     (n : ℕ) (bs o : List ℕ) (w : Table) → n ≤ 4096 → screenRoom ≤ length o →
     w ≡ runOf (replicate (wordsPerDart * n) 0) bs .table → ScreenRoom w o
 screenReady n bs o w h l e =
-    let s = soundRunLaw (replicate (wordsPerDart * n) 0) bs (zerosSound (wordsPerDart * n)) in
-    record {
-      table = record { sound = rw e (s .0); room = rw (e, s .1, emptyRoom) h };
-      room = l;
-    }
+    let k = zerosCounted n h in
+    let s = soundRunLaw (replicate (wordsPerDart * n) 0) bs (k .sound) in
+    record { table = record { sound = rw e (s .0); room = rw (e, s .1) (k .room) }; room = l }

@@ -171,9 +171,9 @@ rows =
       marks = 2 ∷ 1 ∷ [];
       refusal = 0;
       plan =
-        plan (3 ∷ 1 ∷ 1 ∷ 1 ∷ 1 ∷ 0 ∷ 1 ∷ 1 ∷ []) ((1 ∷ 2 ∷ 3 ∷ []) ∷ []) (1 ∷ 1 ∷ 1 ∷ [])
-        (1 ∷ 1 ∷ 0 ∷ 1 ∷ 2 ∷ 0 ∷ 1 ∷ 3 ∷ 0 ∷ 3 ∷ 1 ∷ 0 ∷ 2 ∷ 0 ∷ 3 ∷ 1 ∷ 0 ∷ 3 ∷ 0 ∷ 5 ∷ 1 ∷ 0 ∷ 2 ∷ 0 ∷ 5 ∷ 1 ∷ 0 ∷
-        3 ∷ 0 ∷ []);
+          plan (3 ∷ 1 ∷ 1 ∷ 1 ∷ 1 ∷ 0 ∷ 1 ∷ 1 ∷ []) ((1 ∷ 2 ∷ 3 ∷ []) ∷ []) (1 ∷ 1 ∷ 1 ∷ [])
+          (1 ∷ 1 ∷ 0 ∷ 1 ∷ 2 ∷ 0 ∷ 1 ∷ 3 ∷ 0 ∷ 3 ∷ 1 ∷ 0 ∷ 2 ∷ 0 ∷ 3 ∷ 1 ∷ 0 ∷ 3 ∷ 0 ∷ 5 ∷ 1 ∷ 0 ∷ 2 ∷ 0 ∷ 5 ∷ 1 ∷ 0 ∷
+          3 ∷ 0 ∷ []);
     } ∷
     -- the square; its ring parts it in two, and four lists that are no rings of it
     row 4 square reports 0 squarePlan ∷

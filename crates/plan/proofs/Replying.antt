@@ -6,8 +6,12 @@ use Prim.Native.Nat.{ℕ}
 use lib.ListN.{length}
 use Rattle.table.specs.Layout.{Table}
 use Rattle.parts.specs.Inner.{Counted}
-use Rattle.tape.specs.Steps.{TapeCommand, stepLeaves}
-use Rattle.tape.proofs.Running.{leavesSound}
+use Rattle.tape.specs.Steps.{stepLeaves}
+use Rattle.tape.specs.Inner.{meaning}
+use Rattle.tape.specs.declared.Instruction.{Instruction}
+use Rattle.tape.specs.declared.Reading.{Reading}
+use Rattle.tape.specs.declared.Reading.the-variants.{Whole}
+use Rattle.tape.proofs.Running.{leavesCounted}
 
 pub record Replying (w₀ w : Table) (out₀ out : List ℕ) : Type 0 where
   pub table : Counted w
@@ -17,13 +21,16 @@ pub record Replying (w₀ w : Table) (out₀ out : List ℕ) : Type 0 where
 pub replyingFirst : {w : Table} {out : List ℕ} → Counted w → Replying w w out out
 replyingFirst k = record { table = k; size = refl; room = refl }
 
-pub replyingOn :
-    {w₀ w : Table} {out₀ out : List ℕ} → Replying w₀ w out₀ out → (v : Table) (c : TapeCommand) →
-    v ≡ stepLeaves w c → (next : List ℕ) → length next ≡ length out → Replying w₀ v out₀ next
-replyingOn {w₀} {w} h v c e next l =
-    let s = leavesSound w c (h .table .sound) in
-    rw e (record {
-      table = record { sound = s .0; room = rw (s .1) (h .table .room) };
-      size = s .1 ∙ h .size;
-      room = l ∙ h .room;
-    })
+-- the decoder reads the instruction i, whose command leaves v
+module _
+    {w₀ w : Table} {out₀ out : List ℕ} (h : Replying w₀ w out₀ out) (v : Table) (rest : List ℕ) (r : Reading)
+    (i : Instruction) (n : ℕ) (b : r ≡ Whole i n) (e : v ≡ stepLeaves w (meaning rest i)) where
+  pub replyingTable : Counted v
+  replyingTable = rw e (leavesCounted w (meaning rest i) (h .table) .0)
+
+  pub replyingOn : (next : List ℕ) → length next ≡ length out → Replying w₀ v out₀ next
+  replyingOn next l = record {
+    table = replyingTable;
+    size = rw e (leavesCounted w (meaning rest i) (h .table) .1) ∙ h .size;
+    room = l ∙ h .room;
+  }

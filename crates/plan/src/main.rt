@@ -14,12 +14,7 @@ mod text;
 const MAX_TAPE: usize = 65536;
 
 // The line of an accepted command.
-fn write_accepted(
-    table: &[u16],
-    instruction: Instruction,
-    out: &mut [u8],
-    at: usize,
-) -> usize
+fn write_accepted(table: &[u16], instruction: Instruction, out: &mut [u8], at: usize) -> usize
     requires { ⌜ Counted (now table) ⌝ }
 {
     match instruction {

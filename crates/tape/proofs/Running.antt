@@ -2,15 +2,17 @@
 use mathlib.Core.Path.{_≡_, refl, _∙_}
 use mathlib.Core.Bool.{true}
 use mathlib.Core.List.{List, [], _∷_}
-use Prim.Native.Nat.{ℕ, suc}
+use Prim.Native.Nat.{ℕ, suc, _*_, _≤_}
 use native.Mathlib.Omega.{arith}
 use lib.Dec.{eqb}
-use lib.ListN.{length}
+use lib.ListN.{length, replicate, length-replicate}
 use borrow.Author.Tests.{eqb-true, eqb-false}
 use Rattle.hypermap.proofs.Basics.Bools.{byCases}
+use Rattle.table.specs.Layout.{Table, wordsPerDart, isSound}
 use Rattle.table.specs.Commands.{leaves}
-use Rattle.table.specs.Layout.{Table, isSound}
+use Rattle.table.proofs.Zeros.{zerosSound}
 use Rattle.table.proofs.Commands.{soundnessLaw}
+use Rattle.parts.specs.Inner.{Counted}
 use Rattle.rings.proofs.Parting.{acceptedCut}
 use Rattle.tape.specs.Steps.{TapeCommand, changes, reports, cutsRing, stepFault, stepOn, stepLeaves}
 use Rattle.tape.specs.Tapes.{contentsOf}
@@ -55,15 +57,21 @@ stepSound w (changes c) s e = soundnessLaw w s c e
 stepSound w reports s e = (s, refl)
 stepSound w (cutsRing ws) s e = let i = acceptedCut w ws s e in (i .sound, i .size)
 
--- whether it is accepted or not
-pub leavesSound :
-    (w : Table) (c : TapeCommand) → isSound w ≡ true →
-    (isSound (stepLeaves w c) ≡ true) × (length (stepLeaves w c) ≡ length w)
+-- whether it is accepted or not, there is as much room as before
+pub leavesCounted :
+    (w : Table) (c : TapeCommand) → Counted w → Counted (stepLeaves w c) × (length (stepLeaves w c) ≡ length w)
 unfolding leaves
-leavesSound w c s =
+leavesCounted w c k =
     byCases (eqb (stepFault w c) 0)
-    (λ t. rw t (stepSound w c s (eqb-true (stepFault w c) 0 t)))
-    (λ f. rw f (s, refl))
+    (λ t.
+    let s = stepSound w c (k .sound) (eqb-true (stepFault w c) 0 t) in
+    rw t (record { sound = s .0; room = rw (s .1) (k .room) }, s .1))
+    (λ f. rw f (k, refl))
+
+-- a run starts on an empty table
+pub zerosCounted : (n : ℕ) → n ≤ 4096 → Counted (replicate (wordsPerDart * n) 0)
+zerosCounted n h =
+    record { sound = zerosSound (wordsPerDart * n); room = rw length-replicate (omega arith) }
 
 runSound :
     (cs : List TapeCommand) (w : Table) (n : ℕ) → isSound w ≡ true →
