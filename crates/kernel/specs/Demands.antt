@@ -1,23 +1,166 @@
--- The customer's third demand, whole, about the public calls: of the genus, of the joins and of the ring cuts. Each
--- part is a type, and proofs/Demands cites the proof of each. Assumes nothing.
+-- The customer's three demands, about the public calls, in the customer's words. Each part is a type; proofs/Demands
+-- cites the proof of each. Assumes nothing.
 use mathlib.Core.Path.{_≡_}
 use mathlib.Core.Logic.{_⊎_, _↔_}
 use mathlib.Core.Bool.{true, false}
-use mathlib.Core.List.{List, _∷_}
-use Prim.Native.Nat.{ℕ, suc, _*_}
+use mathlib.Core.List.{List, [], _∷_, _++_}
+use Prim.Native.Nat.{ℕ, suc, _*_, _≤_}
 use lib.IntN.{pos, negsuc, _-ℤ_}
 use lib.Signed.{_≤ℤ_}
-use Rattle.hypermap.specs.Hypermap.{Dimension, isPlanar, componentAt}
-use Rattle.hypermap.specs.Change.{marking}
-use Rattle.hypermap.specs.Ring.{DoubleLink}
+use lib.ListN.{length, replicate, drop}
+use Rattle.hypermap.specs.Lists.{among}
+use Rattle.hypermap.specs.Hypermap.{Dimension, edge, vertex, Hypermap, isDart, isHypermap, of, face, step, faceNext}
+use Rattle.hypermap.specs.Hypermap.{sameOrbit, isPlanar, componentAt}
+use Rattle.hypermap.specs.Change.{change, marking}
+use Rattle.hypermap.specs.Ring.{DoubleLink, breakAlong}
+use Rattle.hypermap.specs.Laws.{Reaches, Connects, IsOrbit}
 use Rattle.hypermap.specs.RingLaws.{IsParted}
+use Rattle.hypermap.specs.Theory.{Theory}
+use Rattle.table.specs.Refusals.{wrongSize, bentTable, offTheTable, noTab, tabTaken, tabHeld, together, apart, sameTab}
+use Rattle.table.specs.Refusals.{noList, tieTwice, gapTwice, pathBroken, shortRoom, unknownCommand, tornCommand}
 use Rattle.table.specs.Layout.{Table, hypermapOf}
-use Rattle.table.specs.Commands.{joins}
-use Rattle.rings.specs.Rings.{linksOf}
+use Rattle.table.specs.Commands.{Command, puts, takesOut, joins, cuts}
+use Rattle.table.specs.Inner.{kindOf}
+use Rattle.table.specs.Laws.{Holds, TableLaw}
+use Rattle.table.specs.declared.Orbit.{Orbit}
+use Rattle.parts.specs.Counts.{countsOf}
 use Rattle.parts.specs.Sharing.{isSame}
-use Rattle.parts.specs.declared.Part.the-variants.{Face, Component}
-use Rattle.kernel.specs.Calls.{callFault, callLeaves, reportOf, ringCallFault, ringCallLeaves}
+use Rattle.parts.specs.declared.Part.{Part}
+use Rattle.parts.specs.declared.Part.the-variants.{Edge, Vertex, Face, Component}
+use Rattle.rings.specs.Rings.{linksOf, isList}
+use Rattle.rings.specs.Laws.{isRingOf}
+use Rattle.tape.specs.Tapes.{contentsOf}
+use Rattle.tape.specs.Runs.{stopped}
+use Rattle.tape.specs.Canonical.{tapeOf}
+use Rattle.tape.specs.Laws.{IsRun, IsBuilt}
+use Rattle.kernel.specs.Calls.{tableFault, callFault, callLeaves, reportOf, totalsOf, refusedTotals}
+use Rattle.kernel.specs.Calls.{ringCallFault, ringCallLeaves, refusalOf, sameAnswer, roundOf, roundAnswer}
+use Rattle.kernel.specs.Calls.{roundLeaves, marksAnswer, marksLeaves, lookOf}
+use Rattle.kernel.specs.Tapes.{playFault, playOutcome, tapeAnswer, tapeLeaves, screenFault, screenLeaves}
+use Rattle.kernel.specs.declared.Answer.{Answer}
 
+-- DEMAND 1. "Whoever calls, with any numbers, any tape and any words in the lent table, gets a reply": no call of
+-- src/lib.rt has a `requires`, and the checker has each of them return. "A call that doesn't fit gets one numbered
+-- refusal by the published conditions and leaves the plan as it found it"
+abbrev pub OneOf : (number : ℕ) → (numbers : List ℕ) → Type 0
+OneOf n ns = (n ≡ 0 → ⊥) → among n ns ≡ true
+
+pub record Refuses (number : ℕ) (numbers before after : List ℕ) : Type 0 where
+  pub one : OneOf number numbers
+  pub kept : (number ≡ 0 → ⊥) → after ≡ before
+
+-- a refused answer has all else zero
+pub record RefusesAnswer (a : Answer) (numbers : List ℕ) : Type 0 where
+  pub one : OneOf (a .number) numbers
+  pub zeros : (a .number ≡ 0 → ⊥) → a ≡ refusalOf (a .number)
+
+abbrev pub tableNumbers : List ℕ
+tableNumbers = wrongSize ∷ bentTable ∷ []
+
+abbrev pub commandNumbers : Command → List ℕ
+commandNumbers (puts x) = wrongSize ∷ bentTable ∷ offTheTable ∷ tabTaken ∷ []
+commandNumbers (takesOut x) = wrongSize ∷ bentTable ∷ offTheTable ∷ noTab ∷ tabHeld ∷ []
+commandNumbers (joins k a b) = wrongSize ∷ bentTable ∷ offTheTable ∷ noTab ∷ together ∷ []
+commandNumbers (cuts k a b) = wrongSize ∷ bentTable ∷ offTheTable ∷ noTab ∷ apart ∷ sameTab ∷ []
+
+abbrev pub ringNumbers : List ℕ
+ringNumbers =
+    wrongSize ∷ bentTable ∷ noList ∷ offTheTable ∷ noTab ∷ apart ∷ sameTab ∷ tieTwice ∷ gapTwice ∷ pathBroken ∷ []
+
+abbrev pub dartNumbers : List ℕ
+dartNumbers = wrongSize ∷ bentTable ∷ offTheTable ∷ noTab ∷ []
+
+pub record FirstDemand : Type 0 where
+  pub commands : (w : Table) (c : Command) → Refuses (callFault w c) (commandNumbers c) w (callLeaves w c)
+  pub rings : (w : Table) (ring : List ℕ) → Refuses (ringCallFault w ring) ringNumbers w (ringCallLeaves w ring)
+  pub report : (w : Table) → OneOf (reportOf w .number) tableNumbers
+  pub reportZeros : (w : Table) → (reportOf w .number ≡ 0 → ⊥) → reportOf w ≡ refusedTotals (reportOf w .number)
+  pub same : (w : Table) (p : Part) (a b : ℕ) → RefusesAnswer (sameAnswer w p a b) dartNumbers
+  pub round :
+      (w : Table) (o : Orbit) (x : ℕ) (out : List ℕ) →
+      RefusesAnswer (roundAnswer w o x out) (dartNumbers ++ (shortRoom ∷ [])) ×
+      ((roundAnswer w o x out .number ≡ 0 → ⊥) → roundLeaves w o x out ≡ out)
+  pub marks :
+      (w : Table) (out : List ℕ) → RefusesAnswer (marksAnswer w out) (tableNumbers ++ (shortRoom ∷ [])) ×
+      ((marksAnswer w out .number ≡ 0 → ⊥) → marksLeaves w out ≡ out)
+  -- "the part is empty, in place of a number, exactly where the question "same tie as itself" is refused"
+  pub look : (w : Table) (x : ℕ) → (lookOf w x ≡ []) ↔ (sameAnswer w Edge x x .number ≡ 0 → ⊥)
+  -- "only a tape run keeps the commands accepted before the refused one, and tells how many"
+  pub unplayed : (w : Table) (tape : List ℕ) → OneOf (playFault w tape) tableNumbers
+  pub played :
+      (w : Table) (tape : List ℕ) →
+      ((playFault w tape ≡ 0 → ⊥) → playOutcome w tape ≡ stopped (playFault w tape) w) ×
+      (playFault w tape ≡ 0 → IsRun w (contentsOf tape .commands) (contentsOf tape .refusal) (playOutcome w tape))
+  pub tapes :
+      (w : Table) (out : List ℕ) → RefusesAnswer (tapeAnswer w out) (tableNumbers ++ (shortRoom ∷ [])) ×
+      ((tapeAnswer w out .number ≡ 0 → ⊥) → tapeLeaves w out ≡ out)
+  pub screen :
+      (tape out : List ℕ) →
+      Refuses (screenFault tape out) (wrongSize ∷ shortRoom ∷ []) out (screenLeaves tape out)
+
+-- DEMAND 2. "Each join, cut, ring cut, question and count is what the published definition of a hypermap says." A table
+-- that passes 1 and 2 holds a hypermap; `Theory` ties what is computed of it to 002's words, and TableLaw says that no
+-- other table of its size holds the same
+abbrev pub JoinsBy : Table → Dimension → (a b : ℕ) → Type 0
+JoinsBy w k a b =
+    (callFault w (joins k a b) ≡ 0) ↔
+    ((tableFault w ≡ 0) × (isDart (hypermapOf w) a ≡ true) × (isDart (hypermapOf w) b ≡ true) ×
+    (sameOrbit (hypermapOf w) (of k) a b ≡ false))
+
+abbrev pub CutsBy : Table → Dimension → (a b : ℕ) → Type 0
+CutsBy w k a b =
+    (callFault w (cuts k a b) ≡ 0) ↔
+    ((tableFault w ≡ 0) × (isDart (hypermapOf w) a ≡ true) × (isDart (hypermapOf w) b ≡ true) ×
+    (sameOrbit (hypermapOf w) (of k) a b ≡ true) × (a ≡ b → ⊥))
+
+abbrev pub RingsBy : Table → (ring : List ℕ) → Type 0
+RingsBy w ws =
+    (ringCallFault w ws ≡ 0) ↔
+    ((tableFault w ≡ 0) × (isList ws ≡ true) × (isRingOf (hypermapOf w) (linksOf ws) ≡ true))
+
+-- what two darts share, by 2.2
+abbrev pub Shares : Hypermap → Part → (a b : ℕ) → Type 0
+Shares m Edge a b = Reaches (m .next edge) a b
+Shares m Vertex a b = Reaches (m .next vertex) a b
+Shares m Face a b = Reaches (faceNext m) a b
+Shares m Component a b = Connects (m .next) a b
+
+pub record IsRound (w : Table) (o : Orbit) (x : ℕ) (out : List ℕ) : Type 0 where
+  pub orbit : IsOrbit (hypermapOf w .darts) (step (hypermapOf w) (kindOf o)) x (roundOf w o x)
+  pub count : roundAnswer w o x out .count ≡ length (roundOf w o x)
+  pub written : roundLeaves w o x out ≡ roundOf w o x ++ drop (length (roundOf w o x)) out
+
+pub record SecondDemand : Type 0 where
+  pub hypermap : (w : Table) → tableFault w ≡ 0 → isHypermap (hypermapOf w) ≡ true
+  pub table : TableLaw
+  pub theory : Theory
+  pub joinAccepted : (w : Table) (k : Dimension) (a b : ℕ) → JoinsBy w k a b
+  pub joinChanges :
+      (w : Table) (k : Dimension) (a b : ℕ) → callFault w (joins k a b) ≡ 0 →
+      Holds (callLeaves w (joins k a b)) (change k a b (hypermapOf w))
+  pub cutAccepted : (w : Table) (k : Dimension) (a b : ℕ) → CutsBy w k a b
+  pub cutChanges :
+      (w : Table) (k : Dimension) (a b : ℕ) → callFault w (cuts k a b) ≡ 0 →
+      Holds (callLeaves w (cuts k a b)) (change k a b (hypermapOf w))
+  pub ringAccepted : (w : Table) (ring : List ℕ) → RingsBy w ring
+  pub ringBreaks :
+      (w : Table) (ring : List ℕ) → ringCallFault w ring ≡ 0 →
+      Holds (ringCallLeaves w ring) (breakAlong (linksOf ring) (hypermapOf w))
+  pub same :
+      (w : Table) (p : Part) (a b : ℕ) → sameAnswer w p a b .number ≡ 0 →
+      (sameAnswer w p a b .yes ≡ true) ↔ Shares (hypermapOf w) p a b
+  pub round :
+      (w : Table) (o : Orbit) (x : ℕ) (out : List ℕ) → roundAnswer w o x out .number ≡ 0 → IsRound w o x out
+  pub report : (w : Table) → reportOf w .number ≡ 0 → reportOf w ≡ totalsOf (countsOf w)
+  -- "A written tape, played on an empty table of the same size, builds the same plan": accepted whole, each of its
+  -- commands counted; "At most 53,238 bytes"
+  pub built : (w : Table) → tableFault w ≡ 0 → IsBuilt w (playOutcome (replicate (length w) 0) (tapeOf w))
+  pub short : (w : Table) → tableFault w ≡ 0 → length (tapeOf w) ≤ 53238
+  -- "and unequal plans of one size never share a tape"
+  pub onlyTape :
+      (v w : Table) → tableFault v ≡ 0 → tableFault w ≡ 0 → length v ≡ length w → tapeOf v ≡ tapeOf w → v ≡ w
+
+-- DEMAND 3
 -- "For every sound plan, twice its pieces less its characteristic is even and never negative; half of it is the
 -- handles, as an accepted report gives them"; and the characteristic is never below −4,092 nor above 8,192
 pub record GenusReported (w : Table) : Type 0 where
@@ -73,3 +216,9 @@ pub record ThirdDemand : Type 0 where
   pub joins : JoinDemand
   pub rings : RingDemand
   pub componentRings : ComponentRingDemand
+
+-- ALL THREE
+pub record Demands : Type 0 where
+  pub first : FirstDemand
+  pub second : SecondDemand
+  pub third : ThirdDemand
