@@ -1,8 +1,8 @@
 pub mod Answering
 pub mod Judging
 pub mod Tapes
-pub mod Complements
-pub mod Screening
+pub mod ScreenCall
 pub mod Plans
 pub mod RingDemand
+pub mod FirstDemand
 pub mod Demands

@@ -1,5 +1,4 @@
 pub mod Calls
 pub mod Tapes
-pub mod Inner
 pub mod Plans
 pub mod Demands

@@ -13,8 +13,9 @@ use Rattle.table.specs.declared.Orbit.the-variants.{Face}
 use Rattle.parts.specs.Marks.{componentMarks}
 use Rattle.tape.specs.Steps.{TapeCommand, changes, reports, cutsRing}
 use Rattle.tape.specs.Canonical.{tapeOf}
+use Rattle.tape.specs.Screens.{twosComplement}
 use Rattle.kernel.specs.Calls.{callFault, callLeaves, ringCallFault, ringCallLeaves, reportOf, roundOf}
-use Rattle.kernel.specs.Tapes.{emptyTable, twosComplement}
+use Rattle.kernel.specs.Tapes.{emptyTable}
 use Rattle.kernel.specs.declared.Totals.{Totals}
 
 -- a plan: its report in document 01's order, the face of each list's first dart, its component marks and its tape

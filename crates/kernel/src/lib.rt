@@ -9,7 +9,6 @@ ghost use Rattle.tape.specs.Runs.{toldOf};
 ghost use Rattle.kernel.specs.Tapes.{playOutcome, tapeAnswer, tapeLeaves, screenFault, screenLeaves};
 
 mod judge;
-mod screen;
 
 pub use parts::Part;
 use parts::count;
@@ -24,6 +23,7 @@ use table::walk;
 use table::words;
 pub use tape::Run;
 use tape::play as player;
+use tape::screen;
 use tape::write;
 
 // What a report answers: a refusal and zeros, or 0 and the numbers in document 01's order.

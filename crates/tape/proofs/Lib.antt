@@ -7,6 +7,8 @@ pub mod Passing
 pub mod OrbitJoins
 pub mod Sizes
 pub mod WholeTape
+pub mod Complements
+pub mod Screening
 pub mod ReadBack
 pub mod Putting
 pub mod Cycles

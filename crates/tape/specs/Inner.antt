@@ -16,6 +16,7 @@ use Rattle.parts.specs.Inner.{Counted}
 use Rattle.tape.specs.Steps.{TapeCommand, changes, reports, cutsRing}
 use Rattle.tape.specs.Tapes.{sizeOf, commandOf, readFault, numbersFrom, tapeBytes}
 use Rattle.tape.specs.Canonical.{orbitJoins, joinsOf}
+use Rattle.tape.specs.Screens.{screenRoom}
 use Rattle.tape.specs.declared.Instruction.{Instruction}
 use Rattle.tape.specs.declared.Instruction.the-variants.{Put, TakeOut, Join, Cut, Report, RingCut}
 use Rattle.tape.specs.declared.Reading.{Reading}
@@ -83,3 +84,12 @@ writtenOf bs o =
 
 unfoldable pub writtenLeaves : (tape out : List ℕ) → List ℕ
 writtenLeaves bs o = cond (leb (length bs) (length o)) (bs ++ drop (length bs) o) o
+
+-- THE SCREEN. Room for a list of numbers of four bytes, and for its whole answer
+pub record NumbersRoom (numbers out : List ℕ) : Type 0 where
+  pub few : length numbers ≤ 4096
+  pub room : 4 * length numbers ≤ length out
+
+pub record ScreenRoom (w : Table) (out : List ℕ) : Type 0 where
+  pub table : Counted w
+  pub room : screenRoom ≤ length out

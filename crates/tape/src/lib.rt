@@ -1,9 +1,11 @@
-// Tapes of commands: the operand table, the decoder, one step, the player and the writer. Inner functions: they may
+// Tapes of commands: the operand table, the decoder, one step, the player, the writer and the
+// screen's answer. Inner functions: they may
 // require a sound table.
 
 pub mod decode;
 pub mod operands;
 pub mod play;
+pub mod screen;
 pub mod step;
 pub mod write;
 

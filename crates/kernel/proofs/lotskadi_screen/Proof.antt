@@ -1,6 +1,6 @@
 use borrow.Author.Needs.{needs}
 use native.Mathlib.Omega.{arith}
-use Rattle.kernel.proofs.Screening.{screenLong, screenShort, screenGiven, emptyIs, emptyPlayable, screenReady}
+use Rattle.kernel.proofs.ScreenCall.{screenLong, screenShort, screenGiven, emptyIs, emptyPlayable, screenReady}
 use Rattle.kernel.proofs.lotskadi_screen.Statement.{statement}
 use Rattle.kernel.proofs.lotskadi_screen.Tie as tie
 

@@ -1,9 +1,9 @@
-use Rattle.kernel.proofs.Complements.{complementPositive, complementSome, complementNegative}
+use Rattle.tape.proofs.Complements.{complementPositive, complementSome, complementNegative}
 use borrow.Author.Needs.{needs}
-use Rattle.kernel.proofs.screen.complement_of.Statement.{statement}
-use Rattle.kernel.proofs.screen.complement_of.Tie as tie
-use Rattle.kernel.proofs.screen.complement_of.Reads as reads
-use Rattle.kernel.proofs.screen.complement_of.Lts as lts
+use Rattle.tape.proofs.screen.complement_of.Statement.{statement}
+use Rattle.tape.proofs.screen.complement_of.Tie as tie
+use Rattle.tape.proofs.screen.complement_of.Reads as reads
+use Rattle.tape.proofs.screen.complement_of.Lts as lts
 use Rattle.parts.proofs.sign.magnitude.Reads as magnitude-reads
 
 -- src/screen.rt:21:9

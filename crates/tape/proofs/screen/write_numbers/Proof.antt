@@ -1,10 +1,10 @@
 use Prim.Native.Nat.{_-_}
 use lib.ListN.{length}
 use borrow.Author.Needs.{needs}
-use Rattle.kernel.proofs.Screening.{Numbered, numberedNone, numberedSize, numberedRoom}
-use Rattle.kernel.proofs.Screening.{numberedMore, numberedAll}
-use Rattle.kernel.proofs.screen.write_numbers.Statement.{statement}
-use Rattle.kernel.proofs.screen.write_numbers.Tie as tie
+use Rattle.tape.proofs.Screening.{Numbered, numberedNone, numberedSize, numberedRoom}
+use Rattle.tape.proofs.Screening.{numberedMore, numberedAll}
+use Rattle.tape.proofs.screen.write_numbers.Statement.{statement}
+use Rattle.tape.proofs.screen.write_numbers.Tie as tie
 
 abbrev Inv-loop : tie.InvT-loop
 Inv-loop out₀ numbers at₀ i₀ out at i = Numbered numbers out₀ out at i

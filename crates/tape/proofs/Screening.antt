@@ -1,27 +1,22 @@
--- The screen's answer: numbers of four bytes laid one behind another, the tape behind them, and what the call answers
--- and leaves. Assumes nothing.
+-- The screen's answer: numbers of four bytes laid one behind another, and the tape behind them. Assumes nothing.
 use mathlib.Core.Path.{_≡_, refl, ap, sym, _∙_}
 use mathlib.Core.List.{List, [], _∷_, _++_, append-assoc, append-nil}
 use Prim.Native.Nat.{ℕ, _+_, _*_, _-_, _≤_, _<_}
 use native.Mathlib.Numerals.{add-one}
 use native.Mathlib.Omega.{arith}
-use lib.ListN.{length, getD, take, drop, set, replicate, length-append, length-drop}
+use lib.ListN.{length, getD, take, drop, set, length-append, length-drop}
 use lib.Seq.{length-take-le, take-length, drop-length, take-all, take-suc, take-at, drop-at, drop-drop}
-use borrow.Author.Tests.{le-leb, lt-leb}
-use Rattle.table.specs.Refusals.{wrongSize, shortRoom, orElse, unless}
-use Rattle.table.specs.Layout.{Table, wordsPerDart, numbers}
+use borrow.Author.Tests.{le-leb}
+use Rattle.table.specs.Layout.{Table, numbers}
 use Rattle.parts.specs.Counts.{countsOf}
 use Rattle.parts.specs.declared.Counts.{Counts}
-use Rattle.tape.specs.Runs.{runOf, toldOf}
 use Rattle.tape.specs.Canonical.{tapeOf}
-use Rattle.tape.specs.Inner.{Playable, HasRoom, Lays, written, writtenLeaves}
+use Rattle.tape.specs.Inner.{HasRoom, Lays, written, writtenLeaves}
 use Rattle.tape.specs.declared.Run.{Run}
-use Rattle.tape.proofs.Running.{zerosCounted, soundRunLaw}
 use Rattle.tape.proofs.Laying.{laysNone, laysThen, laysWhole}
-use Rattle.kernel.specs.Calls.{maxCapacity}
-use Rattle.kernel.specs.Tapes.{maxTape, tapeFault, screenRoom, screenFault, screenBytes, screenLeaves}
-use Rattle.kernel.specs.Tapes.{fourBytes, twosComplement, numbersBytes, tenNumbers, outcomeOf, emptyTable}
-use Rattle.kernel.specs.Inner.{NumbersRoom, ScreenRoom}
+use Rattle.tape.specs.Screens.{screenRoom, screenBytes, fourBytes, twosComplement, numbersBytes, tenNumbers}
+use Rattle.tape.specs.Screens.{outcomeOf}
+use Rattle.tape.specs.Inner.{NumbersRoom}
 
 -- NUMBERS. Four stores
 pub fourLaid :
@@ -114,41 +109,3 @@ unfolding screenBytes
 answerLaid w r c z o p t e i l m f v =
     let ns = tenNumbers (r .number) (r .accepted) (countsOf w) in
     behind 40 (numbersBytes ns) (tapeOf w) o p t (numbersLength ns) (omega arith) (rw (i, e) at f) v
-
--- THE CALL
-module _ (bs o : List ℕ) where
-  pub screenLong : maxTape < length bs → (wrongSize ≡ screenFault bs o) × (o ≡ screenLeaves bs o)
-  unfolding screenFault screenLeaves tapeFault orElse unless
-  screenLong h = rw (lt-leb (length bs) maxTape h) (refl, refl)
-
-  pub screenShort :
-      length bs ≤ maxTape → length o < screenRoom → (shortRoom ≡ screenFault bs o) × (o ≡ screenLeaves bs o)
-  unfolding screenFault screenLeaves tapeFault orElse unless
-  screenShort h l = rw (le-leb (length bs) maxTape h, lt-leb screenRoom (length o) l) (refl, refl)
-
-  pub screenGiven :
-      (e w : Table) (r : Run) (p : List ℕ) → length bs ≤ maxTape → screenRoom ≤ length o →
-      e ≡ emptyTable maxCapacity → r ≡ toldOf (runOf e bs) → w ≡ runOf e bs .table →
-      p ≡ screenBytes (outcomeOf r w) ++ drop (length (screenBytes (outcomeOf r w))) o →
-      (0 ≡ screenFault bs o) × (p ≡ screenLeaves bs o)
-  unfolding screenFault screenLeaves tapeFault orElse unless
-  screenGiven e w r p h l q i j k =
-      rw (le-leb (length bs) maxTape h, le-leb screenRoom (length o) l) (refl, k ∙ rw (i, j, q) refl)
-
--- THE EMPTY TABLE
-pub emptyIs : (n : ℕ) → replicate (wordsPerDart * n) 0 ≡ emptyTable n
-unfolding emptyTable
-emptyIs n = refl
-
-pub emptyPlayable :
-    (n : ℕ) (bs : List ℕ) → n ≤ 4096 → length bs ≤ maxTape → Playable (replicate (wordsPerDart * n) 0) bs
-emptyPlayable n bs h l = record { table = zerosCounted n h; short = l }
-
--- a run on it leaves a sound table of its size
-pub screenReady :
-    (n : ℕ) (bs o : List ℕ) (w : Table) → n ≤ 4096 → screenRoom ≤ length o →
-    w ≡ runOf (replicate (wordsPerDart * n) 0) bs .table → ScreenRoom w o
-screenReady n bs o w h l e =
-    let k = zerosCounted n h in
-    let s = soundRunLaw (replicate (wordsPerDart * n) 0) bs (k .sound) in
-    record { table = record { sound = rw e (s .0); room = rw (e, s .1) (k .room) }; room = l }

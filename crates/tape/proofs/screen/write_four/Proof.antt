@@ -1,9 +1,9 @@
 use native.Mathlib.Omega.{arith}
 use lib.ListN.{length-set}
 use borrow.Author.Needs.{needs}
-use Rattle.kernel.proofs.Screening.{fourLaid}
-use Rattle.kernel.proofs.screen.write_four.Statement.{statement}
-use Rattle.kernel.proofs.screen.write_four.Tie as tie
+use Rattle.tape.proofs.Screening.{fourLaid}
+use Rattle.tape.proofs.screen.write_four.Statement.{statement}
+use Rattle.tape.proofs.screen.write_four.Tie as tie
 
 slice-write-out-2 : tie.Need-slice-write-out-2
 slice-write-out-2 c = simp length-set (omega (arith, c .pre .room))

@@ -1,12 +1,12 @@
 use Rattle.tape.proofs.Sizes.{tapeFits}
 use mathlib.Core.Path.{ap, _∙_}
 use mir.Facts.{toZ-ofZ}
 use mir.Syntax.{w32}
 use borrow.Author.Needs.{needs}
-use Rattle.kernel.specs.Tapes.{twosComplement}
-use Rattle.kernel.proofs.Screening.{answerLaid}
-use Rattle.kernel.proofs.screen.write_answer.Statement.{statement}
-use Rattle.kernel.proofs.screen.write_answer.Tie as tie
+use Rattle.tape.specs.Screens.{twosComplement}
+use Rattle.tape.proofs.Screening.{answerLaid}
+use Rattle.tape.proofs.screen.write_answer.Statement.{statement}
+use Rattle.tape.proofs.screen.write_answer.Tie as tie
 
 -- the characteristic is read back from the bits of an i32
 returns : tie.Need-returns

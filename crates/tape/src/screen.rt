@@ -2,13 +2,12 @@
 ghost use mathlib.Core.Path.{_≡_};
 ghost use mathlib.Core.List.{_++_};
 ghost use lib.ListN.{length, drop};
-ghost use Rattle.tape.specs.Inner.{HasRoom, Lays};
-ghost use Rattle.kernel.specs.Tapes.{fourBytes, twosComplement, numbersBytes, screenBytes, outcomeOf};
-ghost use Rattle.kernel.specs.Inner.{NumbersRoom, ScreenRoom};
+ghost use Rattle.tape.specs.Inner.{HasRoom, Lays, NumbersRoom, ScreenRoom};
+ghost use Rattle.tape.specs.Screens.{fourBytes, twosComplement, numbersBytes, screenBytes, outcomeOf};
+use crate::Run;
+use crate::write;
 use parts::count;
 use parts::sign::magnitude;
-use tape::Run;
-use tape::write;
 
 // Bytes of the ten numbers.
 const HEAD: usize = 40;

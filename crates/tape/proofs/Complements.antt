@@ -11,7 +11,7 @@ use mir.Syntax.{w32}
 use mir.Val.{SFits, toZ, ofZ}
 use mir.Facts.{toZ-ofZ}
 use Rattle.hypermap.proofs.Basics.Bools.{clash}
-use Rattle.kernel.specs.Tapes.{twosComplement}
+use Rattle.tape.specs.Screens.{twosComplement}
 
 positive : (x : ℤ) → leZ (pos 0) x ≡ true → natAbs x ≡ twosComplement x
 positive (pos n) t = refl

@@ -1,0 +1,161 @@
+-- The customer's first demand for the public calls: each refusal is one of the call's published numbers, being the
+-- first of stages that each have one, and a refused call leaves what it was lent as it was. Assumes nothing.
+use mathlib.Core.Path.{_≡_, refl, sym, ap, _∙_}
+use mathlib.Core.Bool.{Bool, true, false}
+use mathlib.Core.List.{List, [], _∷_}
+use mathlib.Core.Logic.{_↔_}
+use Prim.Native.Nat.{ℕ}
+use native.Mathlib.Omega.{arith}
+use lib.Dec.{eqb}
+use lib.ListN.{length, length-take, length-drop}
+use borrow.Author.Tests.{eqb-true, eq-eqb, ne-eqb}
+use Rattle.hypermap.specs.Lists.{among}
+use Rattle.hypermap.proofs.Basics.Bools.{byCases}
+use Rattle.table.specs.Refusals.{wrongSize, bentTable, offTheTable, noTab, shortRoom, orElse, unless}
+use Rattle.table.specs.Layout.{Table, wordsPerDart}
+use Rattle.table.specs.Commands.{Command, puts, takesOut, joins, cuts, presenceFault, commandOn, leaves}
+use Rattle.table.proofs.Faults.{refused}
+use Rattle.table.proofs.Soundness.{low, high}
+use Rattle.parts.specs.declared.Part.the-variants.{Edge}
+use Rattle.rings.specs.Rings.{linksOf, conditionFault, ringFault, cutAlong}
+use Rattle.tape.specs.Tapes.{contentsOf}
+use Rattle.tape.specs.Runs.{stopped}
+use Rattle.tape.specs.Laws.{IsRun}
+use Rattle.tape.proofs.Running.{runLaw}
+use Rattle.kernel.specs.Calls.{tableFault, callFault, callLeaves, ringCallFault, ringCallLeaves, reportOf}
+use Rattle.kernel.specs.Calls.{refusedTotals, questionFault, answer, sameAnswer, listFault, listLeaves}
+use Rattle.kernel.specs.Calls.{listAnswer, lookOf}
+use Rattle.kernel.specs.Tapes.{tapeFault, playFault, playOutcome, screenFault, screenLeaves}
+use Rattle.kernel.specs.Demands.{OneOf, Refuses, RefusesAnswer, tableNumbers, commandNumbers, ringNumbers}
+use Rattle.kernel.specs.Demands.{FirstDemand}
+use Rattle.kernel.proofs.Judging.{dartsReady}
+
+-- ONE NUMBER: a record, for from its type the numbers are known at each stage
+record One (n : ℕ) (ns : List ℕ) : Type 0 where
+  one : OneOf n ns
+
+unlessOne : (t : Bool) (k : ℕ) {ns : List ℕ} → among k ns ≡ true → One (unless t k) ns
+unfolding unless
+unlessOne true k m = record { one = λ z. absurd (z refl) }
+unlessOne false k m = record { one = λ z. m }
+
+orElseOne : {n m : ℕ} {ns : List ℕ} → One n ns → One m ns → One (orElse n m) ns
+unfolding orElse
+orElseOne {n} f g = byCases (eqb n 0) (λ t. rw t g) (λ t. rw t f)
+
+tableOne : (w : Table) {ns : List ℕ} → among wrongSize ns ≡ true → among bentTable ns ≡ true → One (tableFault w) ns
+unfolding tableFault
+tableOne w p q = orElseOne (unlessOne _ _ p) (unlessOne _ _ q)
+
+presenceOne :
+    (w : Table) (xs : List ℕ) {ns : List ℕ} → among offTheTable ns ≡ true → among noTab ns ≡ true →
+    One (presenceFault w xs) ns
+unfolding presenceFault
+presenceOne w xs p q = orElseOne (unlessOne _ _ p) (unlessOne _ _ q)
+
+commandOne : (w : Table) (c : Command) → One (callFault w c) (commandNumbers c)
+unfolding among callFault
+commandOne w (puts x) =
+    orElseOne (tableOne _ refl refl) (orElseOne (unlessOne _ _ refl) (unlessOne _ _ refl))
+commandOne w (takesOut x) =
+    orElseOne (tableOne _ refl refl) (orElseOne (presenceOne _ _ refl refl) (unlessOne _ _ refl))
+commandOne w (joins k a b) =
+    orElseOne (tableOne _ refl refl) (orElseOne (presenceOne _ _ refl refl) (unlessOne _ _ refl))
+commandOne w (cuts k a b) =
+    orElseOne (tableOne _ refl refl)
+    (orElseOne (presenceOne _ _ refl refl) (orElseOne (unlessOne _ _ refl) (unlessOne _ _ refl)))
+
+ringOne : (w : Table) (ws : List ℕ) → One (ringCallFault w ws) ringNumbers
+unfolding among ringCallFault ringFault conditionFault
+ringOne w ws =
+    orElseOne (tableOne _ refl refl)
+    (orElseOne (unlessOne _ _ refl)
+    (orElseOne (presenceOne _ _ refl refl)
+    (orElseOne (unlessOne _ _ refl)
+    (orElseOne (unlessOne _ _ refl)
+    (orElseOne (unlessOne _ _ refl) (orElseOne (unlessOne _ _ refl) (unlessOne _ _ refl)))))))
+
+-- WHAT A REFUSED CALL LEAVES AND ANSWERS
+refuses : (n : ℕ) {ns : List ℕ} (v w : Table) → One n ns → Refuses n ns w (leaves n v w)
+refuses n v w f = record { one = f .one; kept = λ z. sym (refused n n v w refl z) }
+
+answerRefuses : (n : ℕ) (t : Bool) (k : ℕ) {ns : List ℕ} → One n ns → RefusesAnswer (answer n t k) ns
+unfolding answer
+answerRefuses n t k f =
+    byCases (eqb n 0)
+    (λ e. rw e (record { one = λ z. absurd (z refl); zeros = λ z. absurd (z refl) }))
+    (λ e. rw e (record { one = f .one; zeros = λ z. refl }))
+
+answerNumber : (n : ℕ) (t : Bool) (k : ℕ) → answer n t k .number ≡ n
+unfolding answer
+answerNumber n t k = byCases (eqb n 0) (λ e. rw e (sym (eqb-true n 0 e))) (λ e. rw e)
+
+listRefuses :
+    (n : ℕ) (xs o : List ℕ) {ns : List ℕ} → One n ns → among shortRoom ns ≡ true →
+    RefusesAnswer (listAnswer n xs o) ns × ((listAnswer n xs o .number ≡ 0 → ⊥) → listLeaves n xs o ≡ o)
+unfolding listAnswer listLeaves listFault
+listRefuses n xs o f m = (
+  answerRefuses (listFault n xs o) _ _ (orElseOne f (unlessOne _ _ m)),
+  λ z. rw (ne-eqb (listFault n xs o) 0 (λ e. z (answerNumber (listFault n xs o) _ _ ∙ e))),
+)
+
+-- THE REPORT
+reportOne : (w : Table) → One (reportOf w .number) tableNumbers
+unfolding reportOf among
+reportOne w =
+    byCases (eqb (tableFault w) 0) (λ e. rw e (record { one = λ z. absurd (z refl) }))
+    (λ e. rw e (tableOne w refl refl))
+
+reportZeros : (w : Table) → (reportOf w .number ≡ 0 → ⊥) → reportOf w ≡ refusedTotals (reportOf w .number)
+unfolding reportOf
+reportZeros w = byCases (eqb (tableFault w) 0) (λ e. rw e (λ z. absurd (z refl))) (λ e. rw e (λ z. refl))
+
+-- A LOOK
+fourWords : (w : Table) (x : ℕ) → questionFault w (x ∷ x ∷ []) ≡ 0 → length (lookOf w x) ≡ wordsPerDart
+unfolding lookOf
+fourWords w x e =
+    let r = dartsReady w x x e in
+    let l = low w x (r .both .first) in
+    let h = high w x (r .both .first) in
+    rw (eq-eqb (questionFault w (x ∷ x ∷ [])) 0 e) (simp (length-take, length-drop) (omega arith))
+
+look : (w : Table) (x : ℕ) → (lookOf w x ≡ []) ↔ (sameAnswer w Edge x x .number ≡ 0 → ⊥)
+unfolding sameAnswer lookOf
+look w x =
+    let f = questionFault w (x ∷ x ∷ []) in (
+      λ e z. let k = sym (fourWords w x (sym (answerNumber f _ _) ∙ z)) ∙ ap length e in omega arith,
+      λ z. rw (ne-eqb f 0 (λ e. z (answerNumber f _ _ ∙ e))),
+    )
+
+-- A RUN
+playOne : (w : Table) (tape : List ℕ) → One (playFault w tape) tableNumbers
+unfolding playFault tapeFault among
+playOne w tape = orElseOne (unlessOne _ _ refl) (tableOne _ refl refl)
+
+played :
+    (w : Table) (tape : List ℕ) →
+    ((playFault w tape ≡ 0 → ⊥) → playOutcome w tape ≡ stopped (playFault w tape) w) ×
+    (playFault w tape ≡ 0 → IsRun w (contentsOf tape .commands) (contentsOf tape .refusal) (playOutcome w tape))
+unfolding playOutcome
+played w tape = (
+  λ z. rw (ne-eqb (playFault w tape) 0 z),
+  λ e. rw (eq-eqb (playFault w tape) 0 e) (runLaw w (contentsOf tape .commands) (contentsOf tape .refusal)),
+)
+
+-- DEMAND 1, whole
+pub firstDemand : FirstDemand
+unfolding among callLeaves ringCallLeaves questionFault sameAnswer screenFault tapeFault screenLeaves leaves
+firstDemand = record {
+  commands = λ w c. refuses (callFault w c) (commandOn w c) w (commandOne w c);
+  rings = λ w ws. refuses (ringCallFault w ws) (cutAlong (linksOf ws) w) w (ringOne w ws);
+  report = λ w. reportOne w .one;
+  reportZeros = reportZeros;
+  same = λ w p a b. answerRefuses _ _ _ (orElseOne (tableOne w refl refl) (presenceOne w _ refl refl));
+  round = λ w o x out. listRefuses _ _ _ (orElseOne (tableOne w refl refl) (presenceOne w _ refl refl)) refl;
+  marks = λ w out. listRefuses _ _ _ (tableOne w refl refl) refl;
+  look = look;
+  unplayed = λ w tape. playOne w tape .one;
+  played = played;
+  tapes = λ w out. listRefuses _ _ _ (tableOne w refl refl) refl;
+  screen = λ tape out. refuses _ _ out (orElseOne (unlessOne _ _ refl) (unlessOne _ _ refl));
+}

@@ -1,0 +1,54 @@
+-- The screen's call: what it answers and leaves. Assumes nothing.
+use mathlib.Core.Path.{_≡_, refl, _∙_}
+use mathlib.Core.List.{List, _++_}
+use Prim.Native.Nat.{ℕ, _+_, _*_, _-_, _≤_, _<_}
+use lib.ListN.{length, drop, replicate}
+use borrow.Author.Tests.{le-leb, lt-leb}
+use Rattle.table.specs.Refusals.{wrongSize, shortRoom, orElse, unless}
+use Rattle.table.specs.Layout.{Table, wordsPerDart}
+use Rattle.tape.specs.Runs.{runOf, toldOf}
+use Rattle.tape.specs.Inner.{Playable}
+use Rattle.tape.specs.declared.Run.{Run}
+use Rattle.tape.proofs.Running.{zerosCounted, soundRunLaw}
+use Rattle.kernel.specs.Calls.{maxCapacity}
+use Rattle.tape.specs.Screens.{screenRoom, screenBytes, outcomeOf}
+use Rattle.kernel.specs.Tapes.{maxTape, tapeFault, screenFault, screenLeaves, emptyTable}
+use Rattle.tape.specs.Inner.{ScreenRoom}
+
+-- THE CALL
+module _ (bs o : List ℕ) where
+  pub screenLong : maxTape < length bs → (wrongSize ≡ screenFault bs o) × (o ≡ screenLeaves bs o)
+  unfolding screenFault screenLeaves tapeFault orElse unless
+  screenLong h = rw (lt-leb (length bs) maxTape h) (refl, refl)
+
+  pub screenShort :
+      length bs ≤ maxTape → length o < screenRoom → (shortRoom ≡ screenFault bs o) × (o ≡ screenLeaves bs o)
+  unfolding screenFault screenLeaves tapeFault orElse unless
+  screenShort h l = rw (le-leb (length bs) maxTape h, lt-leb screenRoom (length o) l) (refl, refl)
+
+  pub screenGiven :
+      (e w : Table) (r : Run) (p : List ℕ) → length bs ≤ maxTape → screenRoom ≤ length o →
+      e ≡ emptyTable maxCapacity → r ≡ toldOf (runOf e bs) → w ≡ runOf e bs .table →
+      p ≡ screenBytes (outcomeOf r w) ++ drop (length (screenBytes (outcomeOf r w))) o →
+      (0 ≡ screenFault bs o) × (p ≡ screenLeaves bs o)
+  unfolding screenFault screenLeaves tapeFault orElse unless
+  screenGiven e w r p h l q i j k =
+      rw (le-leb (length bs) maxTape h, le-leb screenRoom (length o) l) (refl, k ∙ rw (i, j, q) refl)
+
+-- THE EMPTY TABLE
+pub emptyIs : (n : ℕ) → replicate (wordsPerDart * n) 0 ≡ emptyTable n
+unfolding emptyTable
+emptyIs n = refl
+
+pub emptyPlayable :
+    (n : ℕ) (bs : List ℕ) → n ≤ 4096 → length bs ≤ maxTape → Playable (replicate (wordsPerDart * n) 0) bs
+emptyPlayable n bs h l = record { table = zerosCounted n h; short = l }
+
+-- a run on it leaves a sound table of its size
+pub screenReady :
+    (n : ℕ) (bs o : List ℕ) (w : Table) → n ≤ 4096 → screenRoom ≤ length o →
+    w ≡ runOf (replicate (wordsPerDart * n) 0) bs .table → ScreenRoom w o
+screenReady n bs o w h l e =
+    let k = zerosCounted n h in
+    let s = soundRunLaw (replicate (wordsPerDart * n) 0) bs (k .sound) in
+    record { table = record { sound = rw e (s .0); room = rw (e, s .1) (k .room) }; room = l }
