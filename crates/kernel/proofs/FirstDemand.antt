@@ -1,7 +1,7 @@
 -- The customer's first demand for the public calls: each refusal is one of the call's published numbers, being the
 -- first of stages that each have one, and a refused call leaves what it was lent as it was. Assumes nothing.
 use mathlib.Core.Path.{_≡_, refl, sym, ap, _∙_}
-use mathlib.Core.Bool.{Bool, true, false}
+use mathlib.Core.Bool.{Bool, true}
 use mathlib.Core.List.{List, [], _∷_}
 use mathlib.Core.Logic.{_↔_}
 use Prim.Native.Nat.{ℕ}
@@ -11,13 +11,13 @@ use lib.ListN.{length, length-take, length-drop}
 use borrow.Author.Tests.{eqb-true, eq-eqb, ne-eqb}
 use Rattle.hypermap.specs.Lists.{among}
 use Rattle.hypermap.proofs.Basics.Bools.{byCases}
-use Rattle.table.specs.Refusals.{wrongSize, bentTable, offTheTable, noTab, shortRoom, orElse, unless}
+use Rattle.table.specs.Refusals.{shortRoom}
 use Rattle.table.specs.Layout.{Table, wordsPerDart}
-use Rattle.table.specs.Commands.{Command, puts, takesOut, joins, cuts, presenceFault, commandOn, leaves}
+use Rattle.table.specs.Commands.{commandOn, leaves}
 use Rattle.table.proofs.Faults.{refused}
 use Rattle.table.proofs.Soundness.{low, high}
 use Rattle.parts.specs.declared.Part.the-variants.{Edge}
-use Rattle.rings.specs.Rings.{linksOf, conditionFault, ringFault, cutAlong}
+use Rattle.rings.specs.Rings.{linksOf, cutAlong}
 use Rattle.tape.specs.Tapes.{contentsOf}
 use Rattle.tape.specs.Runs.{stopped}
 use Rattle.tape.specs.Laws.{IsRun}
@@ -26,54 +26,11 @@ use Rattle.kernel.specs.Calls.{tableFault, callFault, callLeaves, ringCa
 use Rattle.kernel.specs.Calls.{refusedTotals, questionFault, answer, sameAnswer, listFault, listLeaves}
 use Rattle.kernel.specs.Calls.{listAnswer, lookOf}
 use Rattle.kernel.specs.Tapes.{tapeFault, playFault, playOutcome, screenFault, screenLeaves}
-use Rattle.kernel.specs.Demands.{OneOf, Refuses, RefusesAnswer, tableNumbers, commandNumbers, ringNumbers}
+use Rattle.kernel.specs.Demands.{Refuses, RefusesAnswer, tableNumbers}
 use Rattle.kernel.specs.Demands.{FirstDemand}
 use Rattle.kernel.proofs.Judging.{dartsReady}
-
--- ONE NUMBER: a record, for from its type the numbers are known at each stage
-record One (n : ℕ) (ns : List ℕ) : Type 0 where
-  one : OneOf n ns
-
-unlessOne : (t : Bool) (k : ℕ) {ns : List ℕ} → among k ns ≡ true → One (unless t k) ns
-unfolding unless
-unlessOne true k m = record { one = λ z. absurd (z refl) }
-unlessOne false k m = record { one = λ z. m }
-
-orElseOne : {n m : ℕ} {ns : List ℕ} → One n ns → One m ns → One (orElse n m) ns
-unfolding orElse
-orElseOne {n} f g = byCases (eqb n 0) (λ t. rw t g) (λ t. rw t f)
-
-tableOne : (w : Table) {ns : List ℕ} → among wrongSize ns ≡ true → among bentTable ns ≡ true → One (tableFault w) ns
-unfolding tableFault
-tableOne w p q = orElseOne (unlessOne _ _ p) (unlessOne _ _ q)
-
-presenceOne :
-    (w : Table) (xs : List ℕ) {ns : List ℕ} → among offTheTable ns ≡ true → among noTab ns ≡ true →
-    One (presenceFault w xs) ns
-unfolding presenceFault
-presenceOne w xs p q = orElseOne (unlessOne _ _ p) (unlessOne _ _ q)
-
-commandOne : (w : Table) (c : Command) → One (callFault w c) (commandNumbers c)
-unfolding among callFault
-commandOne w (puts x) =
-    orElseOne (tableOne _ refl refl) (orElseOne (unlessOne _ _ refl) (unlessOne _ _ refl))
-commandOne w (takesOut x) =
-    orElseOne (tableOne _ refl refl) (orElseOne (presenceOne _ _ refl refl) (unlessOne _ _ refl))
-commandOne w (joins k a b) =
-    orElseOne (tableOne _ refl refl) (orElseOne (presenceOne _ _ refl refl) (unlessOne _ _ refl))
-commandOne w (cuts k a b) =
-    orElseOne (tableOne _ refl refl)
-    (orElseOne (presenceOne _ _ refl refl) (orElseOne (unlessOne _ _ refl) (unlessOne _ _ refl)))
-
-ringOne : (w : Table) (ws : List ℕ) → One (ringCallFault w ws) ringNumbers
-unfolding among ringCallFault ringFault conditionFault
-ringOne w ws =
-    orElseOne (tableOne _ refl refl)
-    (orElseOne (unlessOne _ _ refl)
-    (orElseOne (presenceOne _ _ refl refl)
-    (orElseOne (unlessOne _ _ refl)
-    (orElseOne (unlessOne _ _ refl)
-    (orElseOne (unlessOne _ _ refl) (orElseOne (unlessOne _ _ refl) (unlessOne _ _ refl)))))))
+use Rattle.kernel.proofs.RefusalNumbers.{One, none, unlessOne, orElseOne, tableOne, presenceOne, commandOne}
+use Rattle.kernel.proofs.RefusalNumbers.{ringOne, playOne, runOne}
 
 -- WHAT A REFUSED CALL LEAVES AND ANSWERS
 refuses : (n : ℕ) {ns : List ℕ} (v w : Table) → One n ns → Refuses n ns w (leaves n v w)
@@ -103,7 +60,7 @@ listRefuses n xs o f m = (
 reportOne : (w : Table) → One (reportOf w .number) tableNumbers
 unfolding reportOf among
 reportOne w =
-    byCases (eqb (tableFault w) 0) (λ e. rw e (record { one = λ z. absurd (z refl) }))
+    byCases (eqb (tableFault w) 0) (λ e. rw e none)
     (λ e. rw e (tableOne w refl refl))
 
 reportZeros : (w : Table) → (reportOf w .number ≡ 0 → ⊥) → reportOf w ≡ refusedTotals (reportOf w .number)
@@ -128,10 +85,6 @@ look w x =
     )
 
 -- A RUN
-playOne : (w : Table) (tape : List ℕ) → One (playFault w tape) tableNumbers
-unfolding playFault tapeFault among
-playOne w tape = orElseOne (unlessOne _ _ refl) (tableOne _ refl refl)
-
 played :
     (w : Table) (tape : List ℕ) →
     ((playFault w tape ≡ 0 → ⊥) → playOutcome w tape ≡ stopped (playFault w tape) w) ×
@@ -155,6 +108,7 @@ firstDemand = record {
   marks = λ w out. listRefuses _ _ _ (tableOne w refl refl) refl;
   look = look;
   unplayed = λ w tape. playOne w tape .one;
+  run = λ w tape. runOne w tape .one;
   played = played;
   tapes = λ w out. listRefuses _ _ _ (tableOne w refl refl) refl;
   screen = λ tape out. refuses _ _ out (orElseOne (unlessOne _ _ refl) (unlessOne _ _ refl));

@@ -4,5 +4,8 @@ pub mod Tapes
 pub mod ScreenCall
 pub mod Plans
 pub mod RingDemand
+pub mod RefusalNumbers
 pub mod FirstDemand
+pub mod SecondDemand
+pub mod ThirdDemand
 pub mod Demands

@@ -19,7 +19,8 @@ use Rattle.kernel.specs.Plans.{PlansLaw, sameNumbers, facesFit, rowFits,
 pub plansLaw : PlansLaw
 unfolding all among keep leastOf walkFrom spread spreadBy allLinks noTwo lastOf continuity orElse unless upFrom wordAt
     isPresent isAbsent isLinked dartFits isSound withWord withAll swapped presenceFault isTogether leaves markOf marksOf
-    countsOf linksOf isList pairsTogether pathCloses conditionFault ringFault cutAlong tapeBytes orbitJoins joinsOver putsOf
-    tapeOf sizeFits tableFault callFault callLeaves ringCallFault ringCallLeaves reportOf emptyTable sameNumbers facesFit
+    countsOf linksOf isList pairsTogether pathCloses conditionFault ringFault cutAlong tapeBytes orbitJoins joinsOver
+    putsOf tapeOf sizeFits tableFault callFault callLeaves ringCallFault ringCallLeaves reportOf emptyTable sameNumbers
+    facesFit
     rowFits allFit rows
 plansLaw = refl

@@ -7,6 +7,7 @@ use Prim.Native.Nat.{ℕ, suc}
 use borrow.Author.Tests.{eqb-true, eq-eqb}
 use Rattle.hypermap.specs.Hypermap.{genus}
 use Rattle.hypermap.specs.Ring.{DoubleLink}
+use Rattle.table.specs.Refusals.{orElse}
 use Rattle.table.specs.Layout.{Table, isSound, hypermapOf}
 use Rattle.table.specs.Commands.{leaves}
 use Rattle.table.proofs.Faults.{passed}
@@ -22,7 +23,11 @@ pub ringPassed : (w : Table) (ws : List ℕ) → ringCallFault w ws ≡ 0 → (t
 unfolding ringCallFault
 ringPassed w ws e = passed (tableFault w) (ringFault w ws) e
 
-ringLeaves : (w : Table) (ws : List ℕ) → ringCallFault w ws ≡ 0 → ringCallLeaves w ws ≡ cutAlong (linksOf ws) w
+pub ringFits : (w : Table) (ws : List ℕ) → tableFault w ≡ 0 → ringFault w ws ≡ 0 → ringCallFault w ws ≡ 0
+unfolding ringCallFault orElse
+ringFits w ws e f = rw (e, f)
+
+pub ringLeaves : (w : Table) (ws : List ℕ) → ringCallFault w ws ≡ 0 → ringCallLeaves w ws ≡ cutAlong (linksOf ws) w
 unfolding ringCallLeaves leaves
 ringLeaves w ws e = rw (eq-eqb (ringCallFault w ws) 0 e)
 

@@ -1,7 +1,7 @@
 -- How the calls about tapes answer: the tape is judged, then the table, and then the run or the writer answers. Assumes
 -- nothing.
 use mathlib.Core.Path.{_≡_, refl, ap, sym, _∙_}
-use mathlib.Core.Bool.{true, false}
+use mathlib.Core.Bool.{false}
 use mathlib.Core.List.{List}
 use Prim.Native.Nat.{ℕ, _≤_, _<_}
 use native.Mathlib.Omega.{arith}
@@ -17,7 +17,7 @@ use Rattle.tape.specs.Canonical.{tapeOf}
 use Rattle.tape.specs.Inner.{writtenOf, writtenLeaves}
 use Rattle.tape.specs.declared.Run.{Run}
 use Rattle.tape.specs.declared.Written.{Written}
-use Rattle.kernel.specs.Calls.{tableFault, listLeaves}
+use Rattle.kernel.specs.Calls.{tableFault}
 use Rattle.kernel.specs.Tapes.{maxTape, tapeFault, playFault, playOutcome, tapeAnswer, tapeLeaves}
 use Rattle.kernel.specs.declared.Answer.{Answer}
 use Rattle.kernel.proofs.Answering.{listShort, listWritten}
@@ -48,8 +48,8 @@ module _ (w : Table) (bs : List ℕ) where
   pub playLong : maxTape < length bs → Answers w bs (stopped wrongSize w)
   unfolding playFault
   playLong l =
-      stops w bs wrongSize (refusedFirst (tapeFault bs) (tableFault w) wrongSize (tapeLong bs l) (λ e. absurd (omega arith)))
-      (λ e. absurd (omega arith))
+      let some : wrongSize ≡ 0 → ⊥ = λ e. absurd (omega arith) in
+      stops w bs wrongSize (refusedFirst (tapeFault bs) (tableFault w) wrongSize (tapeLong bs l) some) some
 
   module _ (l : length bs ≤ maxTape) (f : ℕ) (e : f ≡ tableFault w) where
     fault : f ≡ playFault w bs
@@ -59,11 +59,14 @@ module _ (w : Table) (bs : List ℕ) where
     pub playBent : (f ≡ 0 → ⊥) → Answers w bs (stopped f w)
     playBent z = stops w bs f fault z
 
+    pub played : f ≡ 0 → playOutcome w bs ≡ runOf w bs
+    unfolding playOutcome
+    played z = rw (eq-eqb (playFault w bs) 0 (sym fault ∙ z))
+
     pub playRun :
         f ≡ 0 → (r : Run) (v : Table) → (r ≡ toldOf (runOf w bs)) × (v ≡ runOf w bs .table) →
         (r ≡ toldOf (playOutcome w bs)) × (v ≡ playOutcome w bs .table)
-    unfolding playOutcome
-    playRun z r v p = rw (eq-eqb (playFault w bs) 0 (sym fault ∙ z)) p
+    playRun z r v p = rw (played z) p
 
 -- A WRITTEN TAPE
 pub tapeWritten :
@@ -75,7 +78,8 @@ tapeWritten w o f e z t v p =
     byCases (leb (length (tapeOf w)) (length o))
     (λ y.
     let q : t ≡ record { number = 0; count = length (tapeOf w) } = rw y at (p .0) in
-    let a = listWritten (tableFault w) (tapeOf w) o f e (length (tapeOf w)) v z (leb-true _ _ y) refl (rw y at (p .1)) in
+    let l = length (tapeOf w) in
+    let a = listWritten (tableFault w) (tapeOf w) o f e l v z (leb-true _ _ y) refl (rw y at (p .1)) in
     (ap told q ∙ a .0, a .1))
     (λ n.
     let q : t ≡ record { number = shortRoom; count = 0 } = rw n at (p .0) in

@@ -9,7 +9,7 @@ use lib.IntN.{pos, negsuc, _-ℤ_}
 use lib.Signed.{_≤ℤ_}
 use lib.ListN.{length, replicate, drop}
 use Rattle.hypermap.specs.Lists.{among}
-use Rattle.hypermap.specs.Hypermap.{Dimension, edge, vertex, Hypermap, isDart, isHypermap, of, face, step, faceNext}
+use Rattle.hypermap.specs.Hypermap.{Dimension, edge, vertex, Hypermap, isDart, isHypermap, of, step, faceNext}
 use Rattle.hypermap.specs.Hypermap.{sameOrbit, isPlanar, componentAt}
 use Rattle.hypermap.specs.Change.{change, marking}
 use Rattle.hypermap.specs.Ring.{DoubleLink, breakAlong}
@@ -70,6 +70,12 @@ ringNumbers =
 abbrev pub dartNumbers : List ℕ
 dartNumbers = wrongSize ∷ bentTable ∷ offTheTable ∷ noTab ∷ []
 
+-- all but 14, since a run fills no buffer
+abbrev pub runNumbers : List ℕ
+runNumbers =
+    wrongSize ∷ bentTable ∷ offTheTable ∷ noTab ∷ tabTaken ∷ tabHeld ∷ together ∷ apart ∷ sameTab ∷ noList ∷ tieTwice ∷
+    gapTwice ∷ pathBroken ∷ unknownCommand ∷ tornCommand ∷ []
+
 pub record FirstDemand : Type 0 where
   pub commands : (w : Table) (c : Command) → Refuses (callFault w c) (commandNumbers c) w (callLeaves w c)
   pub rings : (w : Table) (ring : List ℕ) → Refuses (ringCallFault w ring) ringNumbers w (ringCallLeaves w ring)
@@ -87,6 +93,7 @@ pub record FirstDemand : Type 0 where
   pub look : (w : Table) (x : ℕ) → (lookOf w x ≡ []) ↔ (sameAnswer w Edge x x .number ≡ 0 → ⊥)
   -- "only a tape run keeps the commands accepted before the refused one, and tells how many"
   pub unplayed : (w : Table) (tape : List ℕ) → OneOf (playFault w tape) tableNumbers
+  pub run : (w : Table) (tape : List ℕ) → OneOf (playOutcome w tape .number) runNumbers
   pub played :
       (w : Table) (tape : List ℕ) →
       ((playFault w tape ≡ 0 → ⊥) → playOutcome w tape ≡ stopped (playFault w tape) w) ×

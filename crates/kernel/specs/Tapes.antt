@@ -1,5 +1,5 @@
--- What the calls about tapes answer, and what they leave in lent memory. Document 01, "Tape". Assumes nothing: these are
--- definitions.
+-- What the calls about tapes answer, and what they leave in lent memory. Document 01, "Tape". Assumes nothing: these
+-- are definitions.
 use mathlib.Core.Bool.{cond}
 use mathlib.Core.List.{List, _++_}
 use Prim.Native.Nat.{ℕ, _*_, _-_}

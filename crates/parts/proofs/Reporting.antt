@@ -8,9 +8,8 @@ use Rattle.hypermap.specs.Hypermap.{edge, vertex, Kind, of, face, orbitOf, comp
 use Rattle.hypermap.specs.Hypermap.{vertices, faces, components, characteristic, genus}
 use Rattle.hypermap.proofs.Basics.Lists.{keepShorter}
 use Rattle.hypermap.proofs.Laws.GenusTheorem.{eulerEquation, genusTheorem}
-use Rattle.table.specs.Layout.{Table, numbers, isPresent, hypermapOf}
-use Rattle.table.proofs.Numbers.{numbersLength}
-use Rattle.table.proofs.Soundness.{soundHypermap}
+use Rattle.table.specs.Layout.{Table, numbers, hypermapOf}
+use Rattle.table.proofs.Soundness.{soundHypermap, dartsFew}
 use Rattle.parts.specs.Counts.{countsOf}
 use Rattle.parts.specs.Inner.{Counted, Few, HasGenus}
 use Rattle.parts.specs.declared.Counts.{Counts}
@@ -24,19 +23,16 @@ pub record Named (w : Table) (d e v f : ℕ) : Type 0 where
   pub isFaces : f ≡ faces (hypermapOf w)
 
 module _ (w : Table) (k : Counted w) where
-  dartsFew : length (hypermapOf w .darts) ≤ 4096
-  dartsFew = omega (arith, keepShorter (isPresent w) (numbers w), numbersLength w)
-
   orbitsFew : (c : Kind) → orbits (hypermapOf w) c ≤ 4096
-  orbitsFew c = omega (arith, keepShorter (isLeastIn (orbitOf (hypermapOf w) c)) (hypermapOf w .darts), dartsFew)
+  orbitsFew c = omega (arith, keepShorter (isLeastIn (orbitOf (hypermapOf w) c)) (hypermapOf w .darts), dartsFew w)
 
   componentsFew : components (hypermapOf w) ≤ 4096
-  componentsFew = omega (arith, keepShorter (isLeastIn (componentOf (hypermapOf w))) (hypermapOf w .darts), dartsFew)
+  componentsFew = omega (arith, keepShorter (isLeastIn (componentOf (hypermapOf w))) (hypermapOf w .darts), dartsFew w)
 
   module _ (d e v f : ℕ) (n : Named w d e v f) where
     pub countsFew : Few d e v f
     countsFew = record {
-      darts = rw (n .isDarts) dartsFew;
+      darts = rw (n .isDarts) (omega (arith, dartsFew w));
       edges = rw (n .isEdges) (orbitsFew (of edge));
       vertices = rw (n .isVertices) (orbitsFew (of vertex));
       faces = rw (n .isFaces) (orbitsFew face);
@@ -53,7 +49,7 @@ module _ (w : Table) (k : Counted w) where
       countsGenus = record {
         few = rw isC componentsFew;
         genus = genus (hypermapOf w);
-        small = omega (arith, eulerEquation (hypermapOf w) (soundHypermap w (k .sound)), componentsFew, dartsFew);
+        small = omega (arith, eulerEquation (hypermapOf w) (soundHypermap w (k .sound)), componentsFew, dartsFew w);
         euler = euler;
       }
 

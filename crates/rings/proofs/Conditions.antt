@@ -12,13 +12,12 @@ use Rattle.hypermap.specs.Hypermap.{Hypermap, isDart, sameEdge}
 use Rattle.hypermap.specs.Ring.{DoubleLink, isDoubleLink, allLinks, unicity, continuity, closure, simplicity, isRing}
 use Rattle.hypermap.specs.Ring.{pairsDiffer}
 use Rattle.hypermap.proofs.Basics.Bools.{clash, andLeft, andRight, andTrue}
-use Rattle.hypermap.proofs.Basics.Lists.{memAll, allMem}
-use Rattle.table.specs.Refusals.{noList, offTheTable, noTab, apart, sameTab, tieTwice, gapTwice, pathBroken}
+use Rattle.table.specs.Refusals.{noList, apart, sameTab, tieTwice, gapTwice, pathBroken}
 use Rattle.table.specs.Refusals.{orElse, unless}
-use Rattle.table.specs.Layout.{Table, isNumber, isPresent, hypermapOf}
+use Rattle.table.specs.Layout.{Table, isPresent, hypermapOf}
 use Rattle.table.specs.Commands.{presenceFault}
 use Rattle.table.proofs.Soundness.{memPresent}
-use Rattle.table.proofs.Faults.{passed, fitting}
+use Rattle.table.proofs.Faults.{passed, fitting, allPresent, presentFits}
 use Rattle.rings.specs.Rings.{linksOf, maxRing, isList, pairsTogether, pathCloses, conditionFault, ringFault}
 use Rattle.rings.specs.Laws.{isRingOf, ConditionsLaw}
 
@@ -70,10 +69,6 @@ module _ (w : Table) where
       let r = dartsLinks ws (omega arith) (andRight (isDoubleLink m (record { first = a; second = b })) _ t) in
       (rw (i, j) (r .0), rw s (r .1))
 
-  allNumbers : (ws : List ℕ) → all (isPresent w) ws ≡ true → all (isNumber w) ws ≡ true
-  unfolding isPresent
-  allNumbers ws t = memAll (isNumber w) ws (λ x i. andLeft (isNumber w x) _ (allMem (isPresent w) ws t x i))
-
 -- ALL CONDITIONS
 pub record Fitting (m : Hypermap) (ls : List DoubleLink) : Type 0 where
   pub differ : pairsDiffer ls ≡ true
@@ -114,12 +109,6 @@ ringTo m (l ∷ ls) t =
       },
     )
 
-pub wordsPresent : (w : Table) (ws : List ℕ) → presenceFault w ws ≡ 0 → all (isPresent w) ws ≡ true
-unfolding presenceFault
-wordsPresent w ws e =
-    fitting (all (isPresent w) ws) noTab (omega arith)
-    (passed (unless (all (isNumber w) ws) offTheTable) (unless (all (isPresent w) ws) noTab) e .1)
-
 pub record Accepted (w : Table) (ws : List ℕ) : Type 0 where
   pub list : isList ws ≡ true
   pub darts : all (isPresent w) ws ≡ true
@@ -139,7 +128,7 @@ acceptedList w ws e =
     let g = passed (unless (simplicity m ls) gapTwice) (unless (pathCloses m ls) pathBroken) (f .1) in
     record {
       list = fitting (isList ws) noList (omega arith) (a .0);
-      darts = wordsPresent w ws (b .0);
+      darts = allPresent w ws (b .0);
       together = fitting (pairsTogether m ls) apart (omega arith) (c .0);
       fit = record {
         differ = fitting (pairsDiffer ls) sameTab (omega arith) (d .0);
@@ -150,10 +139,10 @@ acceptedList w ws e =
     }
 
 acceptable : (w : Table) (ws : List ℕ) → Accepted w ws → ringFault w ws ≡ 0
-unfolding ringFault presenceFault conditionFault orElse unless
+unfolding ringFault conditionFault orElse unless
 acceptable w ws a =
     let f = a .fit in
-    rw (a .list, allNumbers w ws (a .darts), a .darts, a .together, f .differ, f .edges, f .faces, f .path)
+    rw (a .list, presentFits w ws (a .darts), a .together, f .differ, f .edges, f .faces, f .path)
 
 pub conditionsLaw : ConditionsLaw
 conditionsLaw w ws = (

@@ -8,8 +8,8 @@ use native.Mathlib.Omega.{arith}
 use lib.Dec.{eqb}
 use borrow.Author.Tests.{eqb-true, eqb-false, eq-eqb, ne-eqb, not-true, not-false}
 use Rattle.hypermap.specs.Lists.{all}
-use Rattle.hypermap.proofs.Basics.Bools.{byCases}
-use Rattle.hypermap.proofs.Basics.Lists.{Mem, memHead, memTail, allMem}
+use Rattle.hypermap.proofs.Basics.Bools.{byCases, andLeft}
+use Rattle.hypermap.proofs.Basics.Lists.{Mem, memHead, memTail, allMem, memAll}
 use Rattle.table.specs.Refusals.{orElse, unless, offTheTable, noTab}
 use Rattle.table.specs.Layout.{Table, isNumber, isPresent}
 use Rattle.table.specs.Commands.{presenceFault, leaves}
@@ -60,11 +60,14 @@ pub twoFault :
 unfolding presenceFault all
 twoFault w a b = cc (andAll (isNumber w b), andAll (isPresent w b))
 
-pub namedPresent : (w : Table) (xs : List ℕ) → presenceFault w xs ≡ 0 → (x : ℕ) → Mem x xs → isPresent w x ≡ true
+pub allPresent : (w : Table) (xs : List ℕ) → presenceFault w xs ≡ 0 → all (isPresent w) xs ≡ true
 unfolding presenceFault
-namedPresent w xs e =
-    allMem (isPresent w) xs
-    (fitting (all (isPresent w) xs) noTab (omega arith) (passed _ (unless (all (isPresent w) xs) noTab) e .1))
+allPresent w xs e =
+    fitting (all (isPresent w) xs) noTab (omega arith)
+    (passed (unless (all (isNumber w) xs) offTheTable) (unless (all (isPresent w) xs) noTab) e .1)
+
+pub namedPresent : (w : Table) (xs : List ℕ) → presenceFault w xs ≡ 0 → (x : ℕ) → Mem x xs → isPresent w x ≡ true
+namedPresent w xs e = allMem (isPresent w) xs (allPresent w xs e)
 
 pub onePresent : (w : Table) (x : ℕ) → presenceFault w (x ∷ []) ≡ 0 → isPresent w x ≡ true
 onePresent w x e = namedPresent w (x ∷ []) e x (memHead x [])
@@ -75,6 +78,17 @@ bothPresent w a b e = (
   namedPresent w (a ∷ b ∷ []) e a (memHead a (b ∷ [])),
   namedPresent w (a ∷ b ∷ []) e b (memTail b a (b ∷ []) (memHead b [])),
 )
+
+-- and the other way: every dart has a number of the table
+pub presentFits : (w : Table) (xs : List ℕ) → all (isPresent w) xs ≡ true → presenceFault w xs ≡ 0
+unfolding presenceFault orElse unless isPresent
+presentFits w xs p =
+    let n = memAll (isNumber w) xs (λ x m. andLeft (isNumber w x) _ (allMem (isPresent w) xs p x m)) in rw (n, p)
+
+pub bothFit :
+    (w : Table) (a b : ℕ) → isPresent w a ≡ true → isPresent w b ≡ true → presenceFault w (a ∷ b ∷ []) ≡ 0
+unfolding all
+bothFit w a b p q = presentFits w (a ∷ b ∷ []) (rw (p, q))
 
 -- WHAT A COMMAND LEAVES
 pub accepted : (n r : ℕ) (v w u : Table) → r ≡ n → r ≡ 0 → u ≡ v → u ≡ leaves n v w

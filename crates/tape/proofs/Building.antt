@@ -7,11 +7,9 @@ use Prim.Native.Nat.{ℕ, _*_, _≤_}
 use native.Mathlib.Omega.{arith}
 use lib.ListN.{length, length-map, replicate}
 use borrow.Author.Tests.{eq-eqb}
-use Rattle.hypermap.specs.Lists.{among}
 use Rattle.hypermap.specs.Hypermap.{Dimension, edge, vertex, isDart}
 use Rattle.table.specs.Layout.{Table, wordsPerDart, capacity, wordAt, nextWord, backWord, isPresent, isSound}
 use Rattle.table.specs.Layout.{hypermapOf}
-use Rattle.table.specs.Commands.{Command}
 use Rattle.table.specs.Laws.{Holds}
 use Rattle.table.proofs.Soundness.{low, high, memPresent, links, soundHypermap}
 use Rattle.table.proofs.OnlyTables.{tableLaw}

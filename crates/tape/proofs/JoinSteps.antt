@@ -5,19 +5,20 @@ use mathlib.Core.Bool.{true, false}
 use mathlib.Core.List.{List, [], _∷_, _++_, map}
 use Prim.Native.Nat.{ℕ}
 use lib.ListN.{length}
-use Rattle.hypermap.specs.Lists.{all, among, distinct}
+use Rattle.hypermap.specs.Lists.{among, distinct}
 use Rattle.hypermap.specs.Hypermap.{Dimension, of}
 use Rattle.hypermap.specs.Change.{swap}
-use Rattle.hypermap.proofs.Basics.Bools.{clash, refuted, andLeft}
+use Rattle.hypermap.proofs.Basics.Bools.{clash, refuted}
 use Rattle.hypermap.proofs.Basics.Lists.{Mem, memHead, memTail, notAmong, distinctHead, distinctTail}
 use Rattle.hypermap.proofs.Permutations.Reaching.{ride}
 use Rattle.hypermap.proofs.Permutations.Splicing.{swapFirst, swapSecond, swapElse, swapCases}
 use Rattle.hypermap.proofs.Laws.Orbits.{orbitLaw}
 use Rattle.hypermap.proofs.Laws.Changes.{changeLaw}
 use Rattle.table.specs.Refusals.{orElse, unless}
-use Rattle.table.specs.Layout.{Table, wordAt, nextWord, isNumber, isPresent, hypermapOf, isSound}
-use Rattle.table.specs.Commands.{joins, swapped, presenceFault, isTogether, commandFault}
+use Rattle.table.specs.Layout.{Table, wordAt, nextWord, isPresent, hypermapOf, isSound}
+use Rattle.table.specs.Commands.{joins, swapped, isTogether, commandFault}
 use Rattle.table.proofs.Soundness.{memPresent, soundHypermap}
+use Rattle.table.proofs.Faults.{bothFit}
 use Rattle.table.proofs.Swaps.{swapLaw}
 use Rattle.tape.specs.Steps.{TapeCommand, changes, stepOn}
 use Rattle.tape.specs.Laws.{stepsOn, AllAccepted}
@@ -48,13 +49,9 @@ module _
       refuted _ (λ m. let r = o .1 .symmetric a t (memPresent u a ∙ pa) m in
       d (ride f (λ z. z ≡ t) (λ z e. ap f e ∙ alone) t a (o .0 t (memPresent u t ∙ pt) .members a .0 r) refl))
 
-  number : (x : ℕ) → isPresent u x ≡ true → isNumber u x ≡ true
-  unfolding isPresent
-  number x p = andLeft (isNumber u x) _ p
-
   joinAccepted : commandFault u (joins k a t) ≡ 0
-  unfolding presenceFault all orElse unless
-  joinAccepted = rw (number a pa, number t pt, pa, pt, notTogether)
+  unfolding orElse unless
+  joinAccepted = rw (bothFit u a t pa pt, notTogether)
 
 -- u has the darts of w, g as their successor in dimension k, and the successors of v in the other
 pub record Turned (w v u : Table) (k : Dimension) (g : ℕ → ℕ) : Type 0 where

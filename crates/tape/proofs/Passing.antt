@@ -2,7 +2,7 @@
 -- nothing.
 use mathlib.Core.Path.{_≡_, refl, sym, ap, _∙_}
 use mathlib.Core.Bool.{Bool, true, false, _&&_, cond}
-use mathlib.Core.List.{List, [], _∷_, _++_, map, append-assoc}
+use mathlib.Core.List.{List, [], _∷_, _++_, map}
 use Prim.Native.Nat.{ℕ, suc, _+_, _-_, _≤_, _<_}
 use native.Mathlib.Numerals.{add-one}
 use native.Mathlib.Omega.{arith}
@@ -12,7 +12,7 @@ use Rattle.hypermap.specs.Lists.{keep}
 use Rattle.hypermap.specs.Hypermap.{Dimension, Hypermap, of, orbitOf, isLeastIn}
 use Rattle.hypermap.proofs.Basics.Bools.{byCases}
 use Rattle.table.specs.Layout.{Table, capacity, upFrom, isPresent, hypermapOf}
-use Rattle.table.specs.Commands.{Command, puts}
+use Rattle.table.specs.Commands.{puts}
 use Rattle.parts.specs.Marks.{markOf, marksOf, orbitMarks}
 use Rattle.parts.specs.Inner.{markAt}
 use Rattle.parts.proofs.Counting.{keepBoth}

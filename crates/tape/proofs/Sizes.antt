@@ -18,10 +18,9 @@ use Rattle.hypermap.proofs.Basics.Sums.{sumExt, keptOne, sumOfParts}
 use Rattle.hypermap.proofs.Hypermaps.Totals.{up}
 use Rattle.hypermap.proofs.Laws.Orbits.{orbitLaw}
 use Rattle.hypermap.proofs.Laws.Counts.{countLaw}
-use Rattle.table.specs.Layout.{Table, capacity, isPresent, isSound, numbers, hypermapOf}
+use Rattle.table.specs.Layout.{Table, capacity, isSound, hypermapOf}
 use Rattle.table.specs.Commands.{Command, puts, joins}
-use Rattle.table.proofs.Numbers.{numbersLength}
-use Rattle.table.proofs.Soundness.{soundHypermap}
+use Rattle.table.proofs.Soundness.{soundHypermap, dartsFew}
 use Rattle.tape.specs.Tapes.{bytesOf, tapeBytes}
 use Rattle.tape.specs.Canonical.{orbitJoins, joinsOver, joinsOf, putsOf, tapeOf}
 use Rattle.tape.specs.Laws.{SizeLaw}
@@ -121,9 +120,6 @@ tapeParts w =
 -- FEW ENOUGH
 pub orbitsFew : (m : Hypermap) (c : Kind) → orbits m c ≤ length (m .darts)
 orbitsFew m c = keepShorter (isLeastIn (orbitOf m c)) (m .darts)
-
-pub dartsFew : (w : Table) → length (hypermapOf w .darts) ≤ capacity w
-dartsFew w = omega (arith, keepShorter (isPresent w) (numbers w), numbersLength w)
 
 pub tapeFits : (w : Table) → isSound w ≡ true → capacity w ≤ 4096 → length (tapeOf w) ≤ 53238
 tapeFits w s room =

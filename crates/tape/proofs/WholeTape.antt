@@ -10,12 +10,13 @@ use Rattle.hypermap.specs.Hypermap.{edge, vertex, of}
 use Rattle.hypermap.specs.Hypermap.{edges as edgesIn, vertices as verticesIn}
 use Rattle.table.specs.Refusals.{shortRoom}
 use Rattle.table.specs.Layout.{Table, hypermapOf}
+use Rattle.table.proofs.Soundness.{dartsFew}
 use Rattle.parts.specs.Inner.{Counted}
 use Rattle.tape.specs.Tapes.{tapeBytes}
 use Rattle.tape.specs.Canonical.{putsOf, joinsOf, tapeOf}
 use Rattle.tape.specs.Inner.{HasRoom, Lays, writtenOf, writtenLeaves}
 use Rattle.tape.proofs.Laying.{laysThen, laysWhole}
-use Rattle.tape.proofs.Sizes.{sizeLaw, tapeParts, orbitsFew, dartsFew}
+use Rattle.tape.proofs.Sizes.{sizeLaw, tapeParts, orbitsFew}
 
 -- THE COUNTS
 module _

@@ -3,10 +3,10 @@ use mathlib.Core.Path.{_≡_}
 use mathlib.Core.Bool.{true}
 use mathlib.Core.List.{List, [], _∷_}
 use Prim.Native.Nat.{ℕ, _+_, _*_, _≤_, _<_}
-use lib.ListN.{length, getD, take, drop, replicate}
+use lib.ListN.{length, take, drop, replicate}
 use Rattle.hypermap.specs.Hypermap.{edges, vertices}
 use Rattle.table.specs.Layout.{Table, wordsPerDart, capacity, isSound, hypermapOf}
-use Rattle.tape.specs.Steps.{TapeCommand, changes, stepFault, stepOn}
+use Rattle.tape.specs.Steps.{TapeCommand, stepFault, stepOn}
 use Rattle.tape.specs.Tapes.{commandOf, readFault, restOf, contentsOf, endedBy, after}
 use Rattle.tape.specs.Runs.{Outcome, runOver, runOf}
 use Rattle.tape.specs.Canonical.{commandsOf, tapeOf}
@@ -29,13 +29,15 @@ abbrev pub AllAccepted : Table → List TapeCommand → Type 0
 AllAccepted w [] = Unit {0}
 AllAccepted w (c ∷ cs) = (stepFault w c ≡ 0) × AllAccepted (stepOn w c) cs
 
--- a run is a fold: it accepts a beginning of the commands, leaves what that leaves, and is stopped by the refusal of the
--- next one, or by what ends the tape
+-- a run is a fold: it accepts a beginning of the commands, leaves what that leaves, and is stopped by the refusal of
+-- the next one, or by what ends the tape
 pub record IsRun (w : Table) (cs : List TapeCommand) (n : ℕ) (o : Outcome) : Type 0 where
   pub few : o .accepted ≤ length cs
   pub accepted : AllAccepted w (take (o .accepted) cs)
   pub table : o .table ≡ stepsOn w (take (o .accepted) cs)
-  pub stopped : (c : TapeCommand) (rest : List TapeCommand) → drop (o .accepted) cs ≡ c ∷ rest → (o .number ≡ stepFault (o .table) c) × (o .number ≡ 0 → ⊥)
+  pub stopped :
+      (c : TapeCommand) (rest : List TapeCommand) → drop (o .accepted) cs ≡ c ∷ rest →
+      (o .number ≡ stepFault (o .table) c) × (o .number ≡ 0 → ⊥)
   pub ended : drop (o .accepted) cs ≡ [] → o .number ≡ n
 
 abbrev pub RunLaw : Type 0

@@ -6,7 +6,7 @@ use Prim.Native.Nat.{ℕ, suc}
 use lib.Dec.{eqb}
 use Rattle.table.specs.Layout.{Table}
 use Rattle.tape.specs.Steps.{TapeCommand, stepFault, stepOn}
-use Rattle.tape.specs.Tapes.{Contents, contentsOf}
+use Rattle.tape.specs.Tapes.{contentsOf}
 use Rattle.tape.specs.declared.Run.{Run}
 
 -- the refusal that stopped it or 0, how many commands it accepted, and the table that they leave

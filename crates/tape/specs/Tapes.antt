@@ -56,8 +56,8 @@ readFault bs = orElse (unless (isCommand (byteOf bs)) unknownCommand) (unless (l
 abbrev pub restOf : (tape : List ℕ) → List ℕ
 restOf bs = drop (sizeOf bs) bs
 
--- THE COMMANDS of a tape in their order, as far as they can be read, and what stops the reading, 0 at its end. Fuel: the
--- bytes; ReadingLaw shows that it suffices
+-- THE COMMANDS of a tape in their order, as far as they can be read, and what stops the reading, 0 at its end. Fuel:
+-- the bytes; ReadingLaw shows that it suffices
 pub record Contents : Type 0 where
   pub commands : List TapeCommand
   pub refusal : ℕ

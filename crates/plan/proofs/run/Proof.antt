@@ -41,7 +41,8 @@ write-accepted-requires : tie.Need-write-accepted-requires Inv-loop μ-loop
 write-accepted-requires c κs =
     let p = c .before .before .before .before .before in
     let r = p .before .before .before in
-    replyingTable (r .before .before .before .before .loop .inv) _ _ _ _ _ (r .reading .given .1) (p .perform .ensures .1)
+    let h = r .before .before .before .before .loop .inv in
+    replyingTable h _ _ _ _ _ (r .reading .given .1) (p .perform .ensures .1)
 
 sub-rest : tie.Need-sub-rest Inv-loop μ-loop
 sub-rest c =
@@ -63,8 +64,8 @@ loop-again c =
     let a = c .before .before .before .before .before in
     let p = a .before .before .before .before .before .before in
     let r = p .before .before .before in
-    replyingOn (r .before .before .before .before .loop .inv) _ _ _ _ _ (r .reading .given .1) (p .perform .ensures .1) _
-    (a .write-accepted .kept .1 .1 .0)
+    let h = r .before .before .before .before .loop .inv in
+    replyingOn h _ _ _ _ _ (r .reading .given .1) (p .perform .ensures .1) _ (a .write-accepted .kept .1 .1 .0)
 
 same-length-5 : tie.Need-same-length-5 Inv-loop μ-loop
 same-length-5 c = c .before .before .before .loop .inv .size

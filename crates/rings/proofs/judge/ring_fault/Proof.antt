@@ -1,10 +1,9 @@
 use borrow.Author.Needs.{needs}
 use mathlib.Core.Path.{sym, _∙_}
 use native.Mathlib.Omega.{arith}
-use Rattle.table.proofs.Faults.{refusedFirst, refusedSecond, stageStop, stageOn}
+use Rattle.table.proofs.Faults.{refusedFirst, refusedSecond, stageStop, stageOn, allPresent}
 use Rattle.parts.proofs.Counting.{zerosLength}
 use Rattle.rings.specs.Rings.{ringFault}
-use Rattle.rings.proofs.Conditions.{wordsPresent}
 use Rattle.rings.proofs.judge.ring_fault.Statement.{statement}
 use Rattle.rings.proofs.judge.ring_fault.Tie as tie
 
@@ -32,7 +31,7 @@ condition-fault-requires c κs =
       listed = record {
         sound = p .sound;
         room = p .room;
-        darts = wordsPresent _ _ (sym (f .words-fault .ensures) ∙ k .before .if2 .left);
+        darts = allPresent _ _ (sym (f .words-fault .ensures) ∙ k .before .if2 .left);
       };
       size = zerosLength _ (omega arith) ∙ k .capacity-of .ensures;
     }

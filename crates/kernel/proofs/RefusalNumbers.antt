@@ -1,0 +1,121 @@
+-- Each refusal is one of the call's published numbers, being the first of stages that each have one. Assumes nothing.
+use mathlib.Core.Path.{_≡_, refl}
+use mathlib.Core.Bool.{Bool, true, false}
+use mathlib.Core.List.{List, [], _∷_}
+use Prim.Native.Nat.{ℕ, zero, suc}
+use lib.Dec.{eqb}
+use lib.ListN.{length}
+use Rattle.hypermap.specs.Lists.{all, among}
+use Rattle.hypermap.proofs.Basics.Bools.{byCases}
+use Rattle.hypermap.proofs.Basics.Lists.{allMem}
+use Rattle.table.specs.Refusals.{wrongSize, bentTable, offTheTable, noTab, orElse, unless}
+use Rattle.table.specs.Layout.{Table}
+use Rattle.table.specs.Commands.{Command, puts, takesOut, joins, cuts, presenceFault, commandFault}
+use Rattle.rings.specs.Rings.{conditionFault, ringFault}
+use Rattle.tape.specs.Steps.{TapeCommand, changes, reports, cutsRing, stepFault, stepOn}
+use Rattle.tape.specs.Tapes.{readFault, restOf, contentsBy}
+use Rattle.tape.specs.Runs.{runOver}
+use Rattle.kernel.specs.Calls.{tableFault, callFault, ringCallFault}
+use Rattle.kernel.specs.Tapes.{tapeFault, playFault, playOutcome}
+use Rattle.kernel.specs.Demands.{OneOf, tableNumbers, commandNumbers, ringNumbers}
+use Rattle.kernel.specs.Demands.{runNumbers}
+
+-- ONE NUMBER: a record, for from its type the numbers are known at each stage
+pub record One (n : ℕ) (ns : List ℕ) : Type 0 where
+  pub one : OneOf n ns
+
+pub none : {ns : List ℕ} → One 0 ns
+none = record { one = λ z. absurd (z refl) }
+
+pub unlessOne : (t : Bool) (k : ℕ) {ns : List ℕ} → among k ns ≡ true → One (unless t k) ns
+unfolding unless
+unlessOne true k m = none
+unlessOne false k m = record { one = λ z. m }
+
+pub orElseOne : {n m : ℕ} {ns : List ℕ} → One n ns → One m ns → One (orElse n m) ns
+unfolding orElse
+orElseOne {n} f g = byCases (eqb n 0) (λ t. rw t g) (λ t. rw t f)
+
+pub tableOne : (w : Table) {ns : List ℕ} → among wrongSize ns ≡ true → among bentTable ns ≡ true → One (tableFault w) ns
+unfolding tableFault
+tableOne w p q = orElseOne (unlessOne _ _ p) (unlessOne _ _ q)
+
+pub presenceOne :
+    (w : Table) (xs : List ℕ) {ns : List ℕ} → among offTheTable ns ≡ true → among noTab ns ≡ true →
+    One (presenceFault w xs) ns
+unfolding presenceFault
+presenceOne w xs p q = orElseOne (unlessOne _ _ p) (unlessOne _ _ q)
+
+widen : {n : ℕ} {ns : List ℕ} (ms : List ℕ) → all (λ k. among k ms) ns ≡ true → One n ns → One n ms
+widen {n} {ns} ms p f = record { one = λ z. allMem (λ k. among k ms) ns p n (f .one z) }
+
+restOne : (w : Table) (c : Command) → One (commandFault w c) (commandNumbers c)
+unfolding among
+restOne w (puts x) = orElseOne (unlessOne _ _ refl) (unlessOne _ _ refl)
+restOne w (takesOut x) = orElseOne (presenceOne _ _ refl refl) (unlessOne _ _ refl)
+restOne w (joins k a b) = orElseOne (presenceOne _ _ refl refl) (unlessOne _ _ refl)
+restOne w (cuts k a b) =
+    orElseOne (presenceOne _ _ refl refl) (orElseOne (unlessOne _ _ refl) (unlessOne _ _ refl))
+
+-- every command's numbers begin with the table's, and are numbers of a run
+tableFirst : (w : Table) (c : Command) → One (tableFault w) (commandNumbers c)
+unfolding among
+tableFirst w (puts x) = tableOne w refl refl
+tableFirst w (takesOut x) = tableOne w refl refl
+tableFirst w (joins k a b) = tableOne w refl refl
+tableFirst w (cuts k a b) = tableOne w refl refl
+
+inRun : (c : Command) → all (λ k. among k runNumbers) (commandNumbers c) ≡ true
+unfolding among all
+inRun (puts x) = refl
+inRun (takesOut x) = refl
+inRun (joins k a b) = refl
+inRun (cuts k a b) = refl
+
+pub commandOne : (w : Table) (c : Command) → One (callFault w c) (commandNumbers c)
+unfolding callFault
+commandOne w c = orElseOne (tableFirst w c) (restOne w c)
+
+ringRest : (w : Table) (ws : List ℕ) → One (ringFault w ws) ringNumbers
+unfolding among ringFault conditionFault
+ringRest w ws =
+    orElseOne (unlessOne _ _ refl)
+    (orElseOne (presenceOne _ _ refl refl)
+    (orElseOne (unlessOne _ _ refl)
+    (orElseOne (unlessOne _ _ refl)
+    (orElseOne (unlessOne _ _ refl) (orElseOne (unlessOne _ _ refl) (unlessOne _ _ refl))))))
+
+pub ringOne : (w : Table) (ws : List ℕ) → One (ringCallFault w ws) ringNumbers
+unfolding among ringCallFault
+ringOne w ws = orElseOne (tableOne _ refl refl) (ringRest w ws)
+
+-- A RUN
+pub playOne : (w : Table) (tape : List ℕ) → One (playFault w tape) tableNumbers
+unfolding playFault tapeFault among
+playOne w tape = orElseOne (unlessOne _ _ refl) (tableOne _ refl refl)
+
+stepOne : (w : Table) (c : TapeCommand) → One (stepFault w c) runNumbers
+unfolding among all
+stepOne w (changes c) = widen runNumbers (inRun c) (restOne w c)
+stepOne w reports = none
+stepOne w (cutsRing ws) = widen runNumbers refl (ringRest w ws)
+
+contentsOne : (n : ℕ) (bs : List ℕ) → One (contentsBy n bs .refusal) runNumbers
+unfolding contentsBy readFault among
+contentsOne zero bs = none
+contentsOne (suc n) [] = none
+contentsOne (suc n) (b ∷ bs) =
+    byCases (eqb (readFault (b ∷ bs)) 0) (λ t. rw t (contentsOne n (restOf (b ∷ bs))))
+    (λ t. rw t (orElseOne (unlessOne _ _ refl) (unlessOne _ _ refl)))
+
+foldOne : (w : Table) (cs : List TapeCommand) (n : ℕ) → One n runNumbers → One (runOver w cs n .number) runNumbers
+unfolding runOver
+foldOne w [] n f = f
+foldOne w (c ∷ cs) n f =
+    byCases (eqb (stepFault w c) 0) (λ t. rw t (foldOne (stepOn w c) cs n f)) (λ t. rw t (stepOne w c))
+
+pub runOne : (w : Table) (tape : List ℕ) → One (playOutcome w tape .number) runNumbers
+unfolding playOutcome among all
+runOne w tape =
+    byCases (eqb (playFault w tape) 0) (λ t. rw t (foldOne w _ _ (contentsOne (length tape) tape)))
+    (λ t. rw t (widen runNumbers refl (playOne w tape)))

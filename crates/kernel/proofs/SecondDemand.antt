@@ -1,0 +1,192 @@
+-- The second demand: what the public calls accept, change and answer is what the definition of a hypermap says. A call
+-- that is not refused has a sound table and darts of it, to which the laws of tables, parts, rings and tapes apply.
+-- Assumes nothing.
+use mathlib.Core.Path.{_≡_, refl, ap, sym, _∙_}
+use mathlib.Core.Logic.{_↔_}
+use mathlib.Core.Bool.{Bool, true, false}
+use mathlib.Core.List.{List, [], _∷_}
+use Prim.Native.Nat.{ℕ, _≤_}
+use native.Mathlib.Omega.{arith}
+use lib.Dec.{eqb, leb}
+use lib.ListN.{length, replicate, length-replicate}
+use borrow.Author.Tests.{eqb-true, eq-eqb}
+use Rattle.hypermap.specs.Hypermap.{Dimension, edge, vertex, of, face, isDart, isHypermap}
+use Rattle.hypermap.specs.Change.{change}
+use Rattle.hypermap.proofs.Basics.Bools.{byCases}
+use Rattle.hypermap.proofs.Laws.Orbits.{orbitLaw}
+use Rattle.hypermap.proofs.Laws.Components.{componentLaw}
+use Rattle.hypermap.proofs.Theory.{theory}
+use Rattle.table.specs.Refusals.{unless, shortRoom}
+use Rattle.table.specs.Layout.{Table, isPresent, hypermapOf}
+use Rattle.table.specs.Commands.{Command, joins, cuts, swapped, isTogether, commandOn}
+use Rattle.table.specs.Inner.{kindOf}
+use Rattle.table.specs.Laws.{Holds}
+use Rattle.table.specs.declared.Orbit.{Orbit}
+use Rattle.table.proofs.Faults.{passed}
+use Rattle.table.proofs.OnlyTables.{tableLaw}
+use Rattle.table.proofs.Soundness.{memPresent, soundHypermap}
+use Rattle.table.proofs.Swaps.{swapLaw}
+use Rattle.table.proofs.Zeros.{zerosSound}
+use Rattle.parts.specs.Counts.{countsOf}
+use Rattle.parts.specs.Sharing.{isSame}
+use Rattle.parts.specs.declared.Part.{Part}
+use Rattle.parts.specs.declared.Part.the-variants.{Edge, Vertex, Face, Component}
+use Rattle.rings.proofs.Conditions.{conditionsLaw}
+use Rattle.rings.proofs.Parting.{acceptedCut}
+use Rattle.tape.specs.Canonical.{tapeOf}
+use Rattle.tape.specs.Laws.{IsBuilt}
+use Rattle.tape.proofs.Sizes.{tapeFits}
+use Rattle.tape.proofs.Building.{buildLaw, onlyTapeLaw}
+use Rattle.kernel.specs.Calls.{tableFault, callFault, callLeaves, questionFault, answer, sameAnswer}
+use Rattle.kernel.specs.Calls.{listFault, listLeaves, listAnswer, roundOf, roundAnswer}
+use Rattle.kernel.specs.Tapes.{playOutcome}
+use Rattle.kernel.specs.Demands.{JoinsBy, CutsBy, RingsBy, Shares, IsRound, SecondDemand}
+use Rattle.kernel.proofs.Answering.{givenAnswer, givenReport}
+use Rattle.kernel.proofs.Judging.{tablePassed, tableFits, sizeStays, wholeWords, reportPassed, callPassed}
+use Rattle.kernel.proofs.Judging.{callFits, acceptedLeaves, joinPassed, joinFits, cutPassed, cutFits}
+use Rattle.kernel.proofs.Judging.{dartReady, dartsReady}
+use Rattle.kernel.proofs.RingDemand.{ringPassed, ringFits, ringLeaves}
+use Rattle.kernel.proofs.Tapes.{played}
+
+-- JOINS AND CUTS
+joinAccepted : (w : Table) (k : Dimension) (a b : ℕ) → JoinsBy w k a b
+unfolding isTogether
+joinAccepted w k a b = (
+  λ e.
+      let p = callPassed w (joins k a b) e in
+      let j = joinPassed w k a b (p .1) in
+      (p .0, memPresent w a ∙ j .first, memPresent w b ∙ j .second, j .apart),
+  λ p.
+      callFits w (joins k a b) (p .0) (joinFits w k a b (record {
+        first = sym (memPresent w a) ∙ p .1;
+        second = sym (memPresent w b) ∙ p .2;
+        apart = p .3;
+      })),
+)
+
+cutAccepted : (w : Table) (k : Dimension) (a b : ℕ) → CutsBy w k a b
+unfolding isTogether
+cutAccepted w k a b = (
+  λ e.
+      let p = callPassed w (cuts k a b) e in
+      let s = cutPassed w k a b (p .1) in
+      (p .0, memPresent w a ∙ s .first, memPresent w b ∙ s .second, s .together, s .differ),
+  λ p.
+      callFits w (cuts k a b) (p .0) (cutFits w k a b (record {
+        first = sym (memPresent w a) ∙ p .1;
+        second = sym (memPresent w b) ∙ p .2;
+        together = p .3;
+        differ = p .4;
+      })),
+)
+
+-- an accepted command that swaps has made the change of 2.8
+changes :
+    (w : Table) (k : Dimension) (a b : ℕ) (c : Command) → callFault w c ≡ 0 → commandOn w c ≡ swapped k a b w →
+    isPresent w a ≡ true → isPresent w b ≡ true → Holds (callLeaves w c) (change k a b (hypermapOf w))
+changes w k a b c e q pa pb =
+    rw (acceptedLeaves w c e, q) (swapLaw w (tablePassed w (callPassed w c e .0) .sound) k a b pa pb .holds)
+
+joinChanges :
+    (w : Table) (k : Dimension) (a b : ℕ) → callFault w (joins k a b) ≡ 0 →
+    Holds (callLeaves w (joins k a b)) (change k a b (hypermapOf w))
+joinChanges w k a b e =
+    let j = joinPassed w k a b (callPassed w (joins k a b) e .1) in
+    changes w k a b (joins k a b) e refl (j .first) (j .second)
+
+cutChanges :
+    (w : Table) (k : Dimension) (a b : ℕ) → callFault w (cuts k a b) ≡ 0 →
+    Holds (callLeaves w (cuts k a b)) (change k a b (hypermapOf w))
+cutChanges w k a b e =
+    let s = cutPassed w k a b (callPassed w (cuts k a b) e .1) in
+    changes w k a b (cuts k a b) e refl (s .first) (s .second)
+
+-- RINGS
+ringAccepted : (w : Table) (ws : List ℕ) → RingsBy w ws
+ringAccepted w ws = (
+  λ e. let p = ringPassed w ws e in let r = conditionsLaw w ws .0 (p .1) in (p .0, r .0, r .1),
+  λ p. ringFits w ws (p .0) (conditionsLaw w ws .1 (p .1, p .2)),
+)
+
+-- QUESTIONS: an answer with number 0 is not a refusal
+answerPassed : (n : ℕ) (t : Bool) (k : ℕ) → answer n t k .number ≡ 0 → n ≡ 0
+unfolding answer
+answerPassed n t k e = byCases (eqb n 0) (λ u. eqb-true n 0 u) (λ u. rw u at e)
+
+shares :
+    (w : Table) (p : Part) (a b : ℕ) → isHypermap (hypermapOf w) ≡ true → isDart (hypermapOf w) a ≡ true →
+    (isSame w p a b ≡ true) ↔ Shares (hypermapOf w) p a b
+shares w Edge a b wf d = orbitLaw (hypermapOf w) wf (of edge) .0 a d .members b
+shares w Vertex a b wf d = orbitLaw (hypermapOf w) wf (of vertex) .0 a d .members b
+shares w Face a b wf d = orbitLaw (hypermapOf w) wf face .0 a d .members b
+shares w Component a b wf d = componentLaw (hypermapOf w) wf .0 a d .members b
+
+same :
+    (w : Table) (p : Part) (a b : ℕ) → sameAnswer w p a b .number ≡ 0 →
+    (sameAnswer w p a b .yes ≡ true) ↔ Shares (hypermapOf w) p a b
+unfolding sameAnswer
+same w p a b e =
+    let q = questionFault w (a ∷ b ∷ []) in
+    let z = answerPassed q (isSame w p a b) 0 e in
+    let r = dartsReady w a b z .both in
+    rw (← givenAnswer q q (isSame w p a b) 0 refl z)
+    (shares w p a b (soundHypermap w (r .sound)) (memPresent w a ∙ r .first))
+
+listPassed : (n : ℕ) (xs out : List ℕ) → listFault n xs out ≡ 0 → n ≡ 0
+unfolding listFault
+listPassed n xs out z = passed n (unless (leb (length xs) (length out)) shortRoom) z .0
+
+round : (w : Table) (o : Orbit) (x : ℕ) (out : List ℕ) → roundAnswer w o x out .number ≡ 0 → IsRound w o x out
+unfolding listAnswer listLeaves
+round w o x out e =
+    let q = questionFault w (x ∷ []) in
+    let l = roundOf w o x in
+    let z = answerPassed (listFault q l out) false (length l) e in
+    let r = dartReady w x (listPassed q l out z) in
+    record {
+      orbit = orbitLaw (hypermapOf w) (soundHypermap w (r .sound)) (kindOf o) .0 x (memPresent w x ∙ r .here);
+      count = ap (λ a. a .count) (sym (givenAnswer _ (listFault q l out) false (length l) refl z));
+      written = rw (eq-eqb (listFault q l out) 0 z);
+    }
+
+-- THE TAPE
+emptyFits : (w : Table) → tableFault w ≡ 0 → tableFault (replicate (length w) 0) ≡ 0
+emptyFits w e =
+    tableFits (replicate (length w) 0)
+    (sizeStays (replicate (length w) 0) w (length-replicate (length w) 0) (tablePassed w e .size))
+    (zerosSound (length w))
+
+short : (w : Table) → tableFault w ≡ 0 → length (tapeOf w) ≤ 53238
+short w e = let t = tablePassed w e in tapeFits w (t .sound) (t .room)
+
+built : (w : Table) → tableFault w ≡ 0 → IsBuilt w (playOutcome (replicate (length w) 0) (tapeOf w))
+built w e =
+    let t = tablePassed w e in
+    let f = emptyFits w e in
+    let s = short w e in
+    rw (played (replicate (length w) 0) (tapeOf w) (omega arith) 0 (sym f) refl)
+    (buildLaw w (t .sound) (wholeWords w (t .size)))
+
+-- DEMAND 2, whole
+pub secondDemand : SecondDemand
+secondDemand = record {
+  hypermap = λ w e. soundHypermap w (tablePassed w e .sound);
+  table = tableLaw;
+  theory = theory;
+  joinAccepted = joinAccepted;
+  joinChanges = joinChanges;
+  cutAccepted = cutAccepted;
+  cutChanges = cutChanges;
+  ringAccepted = ringAccepted;
+  ringBreaks = λ w ws e.
+      let p = ringPassed w ws e in
+      rw (ringLeaves w ws e) (acceptedCut w ws (tablePassed w (p .0) .sound) (p .1) .holds);
+  same = same;
+  round = round;
+  report = λ w e. sym (givenReport w (tableFault w) (countsOf w) refl (reportPassed w e) refl);
+  built = built;
+  short = short;
+  onlyTape = λ v w e f l t.
+      let p = tablePassed v e in
+      onlyTapeLaw v w (p .sound) (tablePassed w f .sound) (wholeWords v (p .size)) l t;
+}
