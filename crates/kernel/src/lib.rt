@@ -23,10 +23,11 @@ use table::walk;
 use table::words;
 pub use tape::Run;
 use tape::play as player;
-use tape::screen;
+use tape::screen::write_answer;
 use tape::write;
 
 // What a report answers: a refusal and zeros, or 0 and the numbers in document 01's order.
+#[repr(C)]
 pub struct Totals {
     pub number: u8,
     pub darts: u32,
@@ -40,6 +41,7 @@ pub struct Totals {
 }
 
 // What a question answers: a refusal and nothing else, or 0 and what was asked.
+#[repr(C)]
 pub struct Answer {
     pub number: u8,
     pub yes: bool,
@@ -263,8 +265,7 @@ pub fn write_tape(table: &[u16], out: &mut [u8]) -> Answer
 
 // The planning screen's call: plays a tape on an empty table of 4,096 darts and writes ten numbers and the rewritten
 // tape into out. include/lotskadi.h tells C what each byte is.
-#[no_mangle]
-pub extern "C" fn lotskadi_screen(tape: &[u8], out: &mut [u8]) -> u8
+pub fn screen(tape: &[u8], out: &mut [u8]) -> u8
     ensures { λ r. ⌜ r ≡ screenFault (now (tape .entry)) (now (out .entry)) ⌝ }
     ensures out { λ r. ⌜ now (out .exit) ≡ screenLeaves (now (tape .entry)) (now (out .entry)) ⌝ }
 {
@@ -276,6 +277,6 @@ pub extern "C" fn lotskadi_screen(tape: &[u8], out: &mut [u8]) -> u8
     }
     let mut table = [0u16; 16384];
     let run = player::play(&mut table, tape);
-    screen::write_answer(&table, run, out);
+    write_answer(&table, run, out);
     0
 }

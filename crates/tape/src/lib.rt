@@ -28,6 +28,7 @@ pub enum Reading {
 }
 
 // What a run answers: 0 or the refusal that stopped it, and how many commands were accepted.
+#[repr(C)]
 pub struct Run {
     pub number: u8,
     pub accepted: u32,

@@ -1,8 +1,8 @@
 use borrow.Author.Needs.{needs}
 use native.Mathlib.Omega.{arith}
 use Rattle.kernel.proofs.ScreenCall.{screenLong, screenShort, screenGiven, emptyIs, emptyPlayable, screenReady}
-use Rattle.kernel.proofs.lotskadi_screen.Statement.{statement}
-use Rattle.kernel.proofs.lotskadi_screen.Tie as tie
+use Rattle.kernel.proofs.screen.Statement.{statement}
+use Rattle.kernel.proofs.screen.Tie as tie
 
 returns : tie.Need-returns
 returns c = screenLong _ _ (c .if1 .taken)
@@ -28,8 +28,8 @@ returns-3 c =
     screenGiven _ _ _ _ _ _ (l .before .if1 .left) (l .if2 .left) (emptyIs 4096) (p .play .ensures .0)
     (p .play .ensures .1) (a .write-answer .ensures)
 
-pub lotskadi-screen-spec : {M : Type 1} → statement M
-lotskadi-screen-spec =
+pub screen-spec : {M : Type 1} → statement M
+screen-spec =
     tie.close
     (tie.spec
     returns

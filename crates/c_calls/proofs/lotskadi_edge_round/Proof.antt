@@ -1,0 +1,17 @@
+use borrow.Author.Needs.{needs}
+use Rattle.table.specs.declared.Orbit.the-variants.{Edge}
+use Rattle.c_calls.proofs.Narrowed.{narrowedRound}
+use Rattle.c_calls.proofs.lotskadi_edge_round.Statement.{statement}
+use Rattle.c_calls.proofs.lotskadi_edge_round.Tie as tie
+
+returns : tie.Need-returns
+returns c = narrowedRound _ Edge _ _ _ _ _ (cc) (c .before .before .round .ensures)
+
+pub lotskadi-edge-round-spec : {M : Type 1} → statement M
+lotskadi-edge-round-spec =
+    tie.close
+    (tie.spec
+    (λ c κs. search needs)
+    (λ c κs. search needs)
+    (λ c. search needs)
+    returns)

@@ -1,0 +1,17 @@
+use borrow.Author.Needs.{needs}
+use Rattle.c_calls.proofs.Narrowed.{narrowedCall}
+use Rattle.c_calls.proofs.lotskadi_vertex_join.Statement.{statement}
+use Rattle.c_calls.proofs.lotskadi_vertex_join.Tie as tie
+
+returns : tie.Need-returns
+returns c = narrowedCall _ _ _ _ _ (cc) (c .before .before .join .ensures)
+
+pub lotskadi-vertex-join-spec : {M : Type 1} → statement M
+lotskadi-vertex-join-spec =
+    tie.close
+    (tie.spec
+    (λ c κs. search needs)
+    (λ c κs. search needs)
+    (λ c κs. search needs)
+    (λ c. search needs)
+    returns)

@@ -1,0 +1,92 @@
+/* A planning screen in a few lines: it builds a tape for a square of four tabs and a ring that parts it, has the kernel
+ * play it, prints the report, and names the refusal where there is one.
+ *
+ *     rt staticlib c_calls
+ *     cc -Iinclude examples/planner.c target/staticlib/libc_calls.a -o target/planner
+ *     target/planner
+ */
+#include <inttypes.h>
+#include <stdio.h>
+
+#include "lotskadi.h"
+
+struct tape {
+    uint8_t bytes[256];
+    size_t length;
+};
+
+static void write_byte(struct tape *tape, uint8_t byte) {
+    if (tape->length < sizeof tape->bytes) {
+        tape->bytes[tape->length++] = byte;
+    }
+}
+
+static void write_tab(struct tape *tape, uint16_t tab) {
+    write_byte(tape, tab & 0xFF);
+    write_byte(tape, tab >> 8);
+}
+
+static void write_put(struct tape *tape, uint16_t tab) {
+    write_byte(tape, 1);
+    write_tab(tape, tab);
+}
+
+static void write_pair(struct tape *tape, uint8_t command, uint16_t a, uint16_t b) {
+    write_byte(tape, command);
+    write_tab(tape, a);
+    write_tab(tape, b);
+}
+
+static const char *refusal_name(uint32_t number) {
+    static const char *const names[] = {
+        "none",        "wrong size", "bent table", "off the table", "no tab",     "tab taken",
+        "tab held",    "together",   "apart",      "same tab",      "no list",    "tie twice",
+        "gap twice",   "path broken", "short room", "unknown command", "torn command",
+    };
+    return number < sizeof names / sizeof names[0] ? names[number] : "?";
+}
+
+static uint32_t number_at(const uint8_t *out, size_t i) {
+    const uint8_t *four = out + 4 * i;
+    return four[0] | (uint32_t)four[1] << 8 | (uint32_t)four[2] << 16 | (uint32_t)four[3] << 24;
+}
+
+static int show(const struct tape *tape) {
+    static const char *const names[] = {
+        "tabs", "ties", "cells", "gaps", "pieces", "characteristic", "handles", "lifts",
+    };
+    static uint8_t out[LOTSKADI_SCREEN_ROOM];
+    uint8_t refused = lotskadi_screen(tape->bytes, tape->length, out, sizeof out);
+    if (refused != LOTSKADI_OK) {
+        printf("the call is refused: %s\n", refusal_name(refused));
+        return 1;
+    }
+    printf("commands accepted: %" PRIu32 ", refusal: %s\n", number_at(out, 1), refusal_name(number_at(out, 0)));
+    for (size_t i = 0; i < sizeof names / sizeof names[0]; i++) {
+        printf("  %-14s %" PRId32 "\n", names[i], (int32_t)number_at(out, 2 + i));
+    }
+    return 0;
+}
+
+int main(void) {
+    struct tape tape = {.length = 0};
+    for (uint16_t tab = 1; tab <= 4; tab++) {
+        write_put(&tape, tab);
+    }
+    write_pair(&tape, 3, 1, 2);
+    write_pair(&tape, 3, 3, 4);
+    write_pair(&tape, 5, 1, 3);
+    write_pair(&tape, 5, 2, 4);
+    write_byte(&tape, 8);
+    write_byte(&tape, 2);
+    write_tab(&tape, 1);
+    write_tab(&tape, 2);
+    write_tab(&tape, 3);
+    write_tab(&tape, 4);
+    if (show(&tape) != 0) {
+        return 1;
+    }
+    /* tabs 1 and 3 still share a cell: joining them again is refused */
+    write_pair(&tape, 5, 1, 3);
+    return show(&tape);
+}

@@ -1,0 +1,234 @@
+//! Differential tests of the kernel, through its C face, against the second implementation.
+//!
+//!     differential [--seconds N] [--seed S]
+//!
+//! For as long as it is given (20 seconds), with a seed (1): random and structured plans and tapes, whole and damaged.
+//! It ends with how often each refusal was met, and fails where one was never met.
+
+use lotskadi_host::compare::{screen, Lent, Met};
+use lotskadi_host::plans;
+use lotskadi_host::random::Random;
+use lotskadi_host::second::{self, Command, Dimension, Part, Plan, Tab};
+use std::time::{Duration, Instant};
+
+const PARTS: [Part; 4] = [Part::Tie, Part::Cell, Part::Gap, Part::Piece];
+
+/// Lengths around one that matters.
+fn around(random: &mut Random, length: usize) -> usize {
+    match random.below(5) {
+        0 => length.saturating_sub(1),
+        1 => length + 1,
+        2 => 0,
+        3 => random.below(length + 8),
+        _ => length,
+    }
+}
+
+fn plan(random: &mut Random) -> Plan {
+    let capacity = *random.one_of(&[0, 1, 2, 3, 4, 7, 12, 20, 40, 90]);
+    match random.below(10) {
+        0..=4 => plans::random(random, capacity),
+        5..=8 => {
+            let (width, height) = (1 + random.below(6), 1 + random.below(6));
+            plans::Grid::new(width, height, capacity).plan
+        }
+        _ if capacity == 0 => Plan::empty(0),
+        _ => plans::one_orbit(1 + random.below(capacity), capacity, random.once_in(2)),
+    }
+}
+
+/// Every question about some tabs, with buffers of lengths around the answer's.
+fn questions(random: &mut Random, met: &mut Met, lent: &Lent) {
+    let plan = lent.plan();
+    let some: Vec<Tab> = plan.tie.keys().copied().chain([0, 1, plan.capacity as Tab + 1, 65_537]).collect();
+    for _ in 0..4 {
+        let (a, b) = (*random.one_of(&some), *random.one_of(&some));
+        lent.same(met, *random.one_of(&PARTS), a, b);
+        let part = *random.one_of(&PARTS[..3]);
+        let length = if plan.is_present(a) { plan.part(part, a).len() } else { 1 };
+        let room = around(random, length);
+        lent.round(met, part, a, room);
+    }
+    lent.report(met);
+    let room = around(random, plan.capacity);
+    lent.marks(met, room);
+    let room = around(random, plan.tape().len());
+    lent.write_tape(met, room);
+}
+
+fn commands(random: &mut Random, met: &mut Met) {
+    let mut lent = Lent::of(&plan(random));
+    for _ in 0..12 {
+        let command = plans::command(random, &lent.plan());
+        lent.command(met, &command);
+    }
+    questions(random, met, &lent);
+}
+
+/// A table that someone has written into, or of a length that is none.
+fn damaged_table(random: &mut Random, met: &mut Met) {
+    let plan = plan(random);
+    let mut words = plan.to_words();
+    match random.below(4) {
+        0 => words.extend((0..1 + random.below(3)).map(|_| 0)),
+        1 => words.truncate(words.len().saturating_sub(1 + random.below(3))),
+        _ if words.is_empty() => words.push(7),
+        _ => {
+            for _ in 0..1 + random.below(3) {
+                let (at, other) = (random.below(words.len()), random.below(plan.capacity + 2) as u16);
+                words[at] = *random.one_of(&[0, 1, words[at] ^ 1, other, 65_535]);
+            }
+        }
+    }
+    let mut lent = Lent::new(&words);
+    for _ in 0..4 {
+        let command = plans::command(random, &plan);
+        lent.command(met, &command);
+    }
+    lent.play(met, &plan.tape());
+    questions(random, met, &lent);
+}
+
+/// Commands that were accepted on the way, with one now and then that was not.
+fn tape(random: &mut Random, capacity: usize) -> Vec<u8> {
+    let mut plan = Plan::empty(capacity);
+    let mut bytes = vec![];
+    for _ in 0..random.below(60) {
+        let command = match random.below(6) {
+            0 => Command::Report,
+            1 | 2 => Command::Put(1 + random.below(capacity.max(1)) as Tab),
+            _ => plans::command(random, &plan),
+        };
+        let tabs_fit = |tabs: &[Tab]| tabs.iter().all(|&t| t <= 65_535);
+        let fits = match &command {
+            Command::Ring(words) => words.len() % 2 == 0 && words.len() <= 510 && tabs_fit(words),
+            Command::Put(t) | Command::TakeOut(t) => tabs_fit(&[*t]),
+            Command::Join(_, a, b) | Command::Cut(_, a, b) => tabs_fit(&[*a, *b]),
+            Command::Report => true,
+        };
+        if fits && (plan.apply(&command) == 0 || random.once_in(40)) {
+            bytes.extend(second::write(&command));
+        }
+    }
+    bytes
+}
+
+fn damage(random: &mut Random, tape: &mut Vec<u8>) {
+    match random.below(6) {
+        0 => tape.truncate(random.below(tape.len() + 1)),
+        1 => tape.push(*random.one_of(&[0, 1, 3, 8, 9, 255])),
+        2 if !tape.is_empty() => {
+            let at = random.below(tape.len());
+            tape[at] = random.next() as u8;
+        }
+        3 => tape.extend([8, 0]),
+        _ => {}
+    }
+}
+
+fn tapes(random: &mut Random, met: &mut Met) {
+    let capacity = *random.one_of(&[0, 1, 3, 8, 20]);
+    let mut bytes = tape(random, capacity);
+    damage(random, &mut bytes);
+    let mut lent = Lent::of(&Plan::empty(capacity));
+    lent.play(met, &bytes);
+    // what was written plays back
+    let written = lent.plan().tape();
+    let mut again = Lent::of(&Plan::empty(capacity));
+    assert_eq!(again.play(met, &written).number, 0, "a canonical tape");
+    assert_eq!(&again.words[..], &lent.words[..], "a canonical tape builds its table");
+    if random.once_in(4) {
+        let room = match random.below(3) {
+            0 => around(random, second::SCREEN_ROOM),
+            _ => second::SCREEN_ROOM,
+        };
+        screen(met, &bytes, room);
+    }
+}
+
+/// A ring round a rectangle of cells in a grid: it parts the grid in two, and the plan stays flat.
+fn rings(random: &mut Random, met: &mut Met) {
+    let (width, height) = match random.below(40) {
+        0 => (300, 3),
+        1 => (20, 20),
+        _ => (2 + random.below(9), 2 + random.below(9)),
+    };
+    let grid = plans::Grid::new(width, height, second::MAX_CAPACITY);
+    let (left, top) = (random.below(width), random.below(height));
+    let (right, bottom) = (left + random.below(width - left), top + random.below(height - top));
+    // a path that meets two opposite sides would pass the gap outside twice
+    if right - left + 1 == width || bottom - top + 1 == height {
+        return;
+    }
+    let ring = grid.ring((left, top), (right, bottom));
+    let mut lent = Lent::of(&grid.plan);
+    let before = grid.plan.report();
+    assert_eq!(lent.command(met, &Command::Ring(ring.clone())), 0, "a ring in a grid of {width} by {height}");
+    let after = lent.plan().report();
+    assert_eq!((after.pieces, after.handles), (before.pieces + 1, 0), "a piece comes loose, and the plan stays flat");
+    lent.report(met);
+    lent.command(met, &Command::Ring(ring));
+}
+
+/// What is as large as it may be, and one more.
+fn full(random: &mut Random, met: &mut Met) {
+    let capacity = second::MAX_CAPACITY;
+    let plan = match random.below(4) {
+        0 => plans::random(random, capacity),
+        1 => plans::Grid::new(32, 33, capacity).plan,
+        2 => plans::one_orbit(capacity, capacity, false),
+        _ => plans::one_orbit(capacity, capacity, true),
+    };
+    let mut lent = Lent::of(&plan);
+    lent.report(met);
+    lent.write_tape(met, 53_238);
+    lent.marks(met, capacity);
+    for command in [
+        Command::Put(capacity as Tab),
+        Command::Put(capacity as Tab + 1),
+        Command::Join(Dimension::Tie, 1, capacity as Tab),
+        Command::Cut(Dimension::Cell, 1, capacity as Tab),
+        Command::Ring(vec![1; 4096]),
+        Command::Ring(vec![1; 4098]),
+    ] {
+        lent.command(met, &command);
+    }
+    Lent::new(&vec![0; 16_388]).report(met);
+    Lent::of(&Plan::empty(4)).play(met, &vec![7; second::MAX_TAPE + random.below(2)]);
+    screen(met, &vec![7; second::MAX_TAPE + 1], second::SCREEN_ROOM);
+    screen(met, &plan.tape(), second::SCREEN_ROOM);
+}
+
+fn main() {
+    let arguments: Vec<String> = std::env::args().collect();
+    let option = |name: &str, default: u64| match arguments.iter().position(|a| a == name) {
+        Some(at) => arguments[at + 1].parse().expect("a number"),
+        None => default,
+    };
+    let (seconds, seed) = (option("--seconds", 20), option("--seed", 1));
+    let mut random = Random::new(seed);
+    let mut met = Met::default();
+    let end = Instant::now() + Duration::from_secs(seconds);
+    let mut turns = 0u64;
+    while Instant::now() < end {
+        match turns % 200 {
+            0 => full(&mut random, &mut met),
+            n if n % 10 == 5 => rings(&mut random, &mut met),
+            n if n % 4 == 1 => damaged_table(&mut random, &mut met),
+            n if n % 4 == 2 => tapes(&mut random, &mut met),
+            _ => commands(&mut random, &mut met),
+        }
+        turns += 1;
+    }
+    println!("seed {seed}, {seconds} s: {} calls in {turns} turns agreed", met.calls);
+    println!(
+        "{} rings cut, the longest of {} crossings; {} reports of plans with handles",
+        met.rings, met.longest_ring, met.with_handles
+    );
+    println!("refusals (0: accepted) and how often each was met:");
+    for (number, times) in met.refusals.iter().enumerate() {
+        println!("  {number:2}: {times}");
+    }
+    let all_met = met.refusals.iter().all(|&times| times > 0);
+    assert!(all_met && met.rings > 0 && met.with_handles > 0, "something was never met");
+}

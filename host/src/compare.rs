@@ -1,0 +1,216 @@
+//! Calls of the kernel and of the second implementation side by side. What is lent stands flush against a closed page,
+//! and every lent word is compared afterwards. A difference ends the program with both sides.
+
+use crate::binding::{self, Answer, Run, Totals};
+use crate::guarded::Guarded;
+use crate::second::{self, Command, Dimension, Part, Plan, Tab};
+
+/// What was met: how often each refusal, 0 for what was accepted; rings that were cut; plans with handles.
+#[derive(Default)]
+pub struct Met {
+    pub refusals: [u64; 17],
+    pub calls: u64,
+    pub rings: u64,
+    pub longest_ring: usize,
+    pub with_handles: u64,
+}
+
+impl Met {
+    fn note(&mut self, number: u8) {
+        self.refusals[usize::from(number)] += 1;
+        self.calls += 1;
+    }
+}
+
+/// A table lent to the kernel, and what it should hold.
+pub struct Lent {
+    pub words: Guarded<u16>,
+    /// The plan, or the refusal that the table gets.
+    pub plan: Result<Plan, u8>,
+}
+
+fn totals(plan: &Plan) -> Totals {
+    let r = plan.report();
+    Totals {
+        number: 0,
+        tabs: r.tabs as u32,
+        ties: r.ties as u32,
+        cells: r.cells as u32,
+        gaps: r.gaps as u32,
+        pieces: r.pieces as u32,
+        characteristic: r.characteristic as i32,
+        handles: r.handles as u32,
+        lifts: r.lifts as u32,
+    }
+}
+
+fn refused(number: u8) -> Answer {
+    Answer { number, ..Answer::default() }
+}
+
+/// A list into a buffer: the answer, and the buffer afterwards.
+fn listed<T: Copy>(fault: u8, list: &[T], out: &[T]) -> (Answer, Vec<T>) {
+    let number = if fault == 0 && out.len() < list.len() { 14 } else { fault };
+    if number != 0 {
+        return (refused(number), out.to_vec());
+    }
+    let mut after = list.to_vec();
+    after.extend_from_slice(&out[list.len()..]);
+    (Answer { number: 0, yes: false, count: list.len() as u32 }, after)
+}
+
+impl Lent {
+    pub fn new(words: &[u16]) -> Lent {
+        Lent { words: Guarded::new(words), plan: Plan::from_words(words) }
+    }
+
+    pub fn of(plan: &Plan) -> Lent {
+        Lent::new(&plan.to_words())
+    }
+
+    fn fault(&self) -> u8 {
+        match self.plan {
+            Ok(_) => 0,
+            Err(number) => number,
+        }
+    }
+
+    /// The plan; the empty one where the table is refused.
+    pub fn plan(&self) -> Plan {
+        self.plan.clone().unwrap_or_default()
+    }
+
+    fn question_fault(&self, tabs: &[Tab]) -> u8 {
+        match &self.plan {
+            Ok(plan) => plan.question_fault(tabs),
+            Err(number) => *number,
+        }
+    }
+
+    fn unchanged_or(&self, before: &[u16], what: &str) {
+        match &self.plan {
+            Ok(plan) => assert_eq!(&self.words[..], &plan.to_words()[..], "words after {what}"),
+            Err(_) => assert_eq!(&self.words[..], before, "words after {what}, refused"),
+        }
+    }
+
+    pub fn command(&mut self, met: &mut Met, command: &Command) -> u8 {
+        let before = self.words.to_vec();
+        let ring: Vec<u16> = match command {
+            Command::Ring(tabs) => tabs.iter().map(|&t| t as u16).collect(),
+            _ => vec![],
+        };
+        let ring = Guarded::new(&ring);
+        let table = &mut self.words;
+        let number = match *command {
+            Command::Put(t) => binding::put(table, t),
+            Command::TakeOut(t) => binding::take_out(table, t),
+            Command::Join(Dimension::Tie, a, b) => binding::edge_join(table, a, b),
+            Command::Join(Dimension::Cell, a, b) => binding::vertex_join(table, a, b),
+            Command::Cut(Dimension::Tie, a, b) => binding::edge_cut(table, a, b),
+            Command::Cut(Dimension::Cell, a, b) => binding::vertex_cut(table, a, b),
+            Command::Ring(_) => binding::ring_cut(table, &ring),
+            Command::Report => binding::report(table).number,
+        };
+        let expected = match &mut self.plan {
+            Ok(plan) => plan.apply(command),
+            Err(number) => *number,
+        };
+        assert_eq!(number, expected, "refusal of {command:?} on {before:?}");
+        self.unchanged_or(&before, &format!("{command:?}"));
+        met.note(number);
+        if let (Command::Ring(words), 0) = (command, number) {
+            met.rings += 1;
+            met.longest_ring = met.longest_ring.max(words.len() / 2);
+        }
+        number
+    }
+
+    pub fn report(&self, met: &mut Met) {
+        let expected = match &self.plan {
+            Ok(plan) => totals(plan),
+            Err(number) => Totals { number: *number, ..Totals::default() },
+        };
+        assert_eq!(binding::report(&self.words), expected, "report of {:?}", &self.words[..]);
+        met.note(expected.number);
+        met.with_handles += u64::from(expected.handles > 0);
+    }
+
+    pub fn same(&self, met: &mut Met, part: Part, a: Tab, b: Tab) {
+        let answer = match part {
+            Part::Tie => binding::same_edge(&self.words, a, b),
+            Part::Cell => binding::same_vertex(&self.words, a, b),
+            Part::Gap => binding::same_face(&self.words, a, b),
+            Part::Piece => binding::same_component(&self.words, a, b),
+        };
+        let number = self.question_fault(&[a, b]);
+        let yes = number == 0 && self.plan().part(part, a).contains(&b);
+        assert_eq!(answer, Answer { number, yes, count: 0 }, "same {part:?} of {a} and {b}");
+        met.note(number);
+    }
+
+    pub fn round(&self, met: &mut Met, part: Part, tab: Tab, room: usize) {
+        let mut out = Guarded::new(&vec![0xEEEE; room]);
+        let fault = self.question_fault(&[tab]);
+        let list: Vec<u16> = match fault {
+            0 => self.plan().part(part, tab).iter().map(|&t| t as u16).collect(),
+            _ => vec![],
+        };
+        let (expected, after) = listed(fault, &list, &out);
+        let answer = match part {
+            Part::Tie => binding::edge_round(&self.words, tab, &mut out),
+            Part::Cell => binding::vertex_round(&self.words, tab, &mut out),
+            _ => binding::face_round(&self.words, tab, &mut out),
+        };
+        assert_eq!(answer, expected, "round of {part:?} from {tab} into {room}");
+        assert_eq!(&out[..], &after[..], "buffer of a round");
+        met.note(expected.number);
+    }
+
+    pub fn marks(&self, met: &mut Met, room: usize) {
+        let mut out = Guarded::new(&vec![0xEEEE; room]);
+        let (expected, after) = listed(self.fault(), &self.plan().marks(), &out);
+        let answer = binding::component_marks(&self.words, &mut out);
+        assert_eq!(answer, expected, "marks into {room}");
+        assert_eq!(&out[..], &after[..], "buffer of marks");
+        met.note(expected.number);
+    }
+
+    pub fn write_tape(&self, met: &mut Met, room: usize) {
+        let mut out = Guarded::new(&vec![0xEE; room]);
+        let (expected, after) = listed(self.fault(), &self.plan().tape(), &out);
+        let answer = binding::write_tape(&self.words, &mut out);
+        assert_eq!(answer, expected, "tape into {room}");
+        assert_eq!(&out[..], &after[..], "buffer of a tape");
+        met.note(expected.number);
+    }
+
+    pub fn play(&mut self, met: &mut Met, tape: &[u8]) -> Run {
+        let before = self.words.to_vec();
+        let lent = Guarded::new(tape);
+        let run = binding::play(&mut self.words, &lent);
+        let expected = match &mut self.plan {
+            _ if tape.len() > second::MAX_TAPE => Run { number: 1, accepted: 0 },
+            Ok(plan) => {
+                let run = plan.play(tape);
+                Run { number: run.number, accepted: run.accepted }
+            }
+            Err(number) => Run { number: *number, accepted: 0 },
+        };
+        assert_eq!(run, expected, "run of {tape:?}");
+        assert_eq!(&lent[..], tape, "a tape is only read");
+        self.unchanged_or(&before, "a run");
+        met.note(run.number);
+        run
+    }
+}
+
+pub fn screen(met: &mut Met, tape: &[u8], room: usize) {
+    let lent = Guarded::new(tape);
+    let mut out = Guarded::new(&vec![0xEE; room]);
+    let (expected, after) = second::screen(tape, &out);
+    let number = binding::screen(&lent, &mut out);
+    assert_eq!(number, expected, "the screen's call on {} bytes into {room}", tape.len());
+    assert_eq!(&out[..], &after[..], "the screen's buffer");
+    met.note(number);
+}

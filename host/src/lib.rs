@@ -1,0 +1,8 @@
+//! The kernel seen from Rust: a safe binding of its C face, and a second implementation to compare it with.
+
+pub mod binding;
+pub mod compare;
+pub mod guarded;
+pub mod plans;
+pub mod random;
+pub mod second;
