@@ -27,8 +27,10 @@ fn dart_fits(table: &[u16], x: u16) -> bool
         (words::word(table, x, 1) == 0)
             & (words::word(table, x, 2) == 0)
             & (words::word(table, x, 3) == 0)
+    } else if is_half_linked(table, Dimension::Edge, x) {
+        is_half_linked(table, Dimension::Vertex, x)
     } else {
-        is_half_linked(table, Dimension::Edge, x) & is_half_linked(table, Dimension::Vertex, x)
+        false
     }
 }
 

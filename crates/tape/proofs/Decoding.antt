@@ -12,7 +12,8 @@ use lib.Seq.{take-all, take-at, drop-length, paste-suc}
 use borrow.Author.Tests.{leb-true, ltb-true}
 use Rattle.hypermap.specs.Lists.{all}
 use Rattle.hypermap.proofs.Basics.Bools.{andLeft, andRight}
-use Rattle.tape.specs.Tapes.{operandBytes, isCommand, commandSize, numberAt, numbersFrom}
+use Rattle.tape.specs.Tapes.{operandBytes, isCommand, commandSize, byteOf, sizeOf}
+use Rattle.tape.specs.Tapes.{numberAt, numbersFrom}
 
 -- COMMAND BYTES are indices of the operand table, and its entries are small
 pub commandBelow : (b : ℕ) → isCommand b ≡ true → b < 9
@@ -28,6 +29,13 @@ entryBelow n (x ∷ l) (suc i) h = entryBelow n l i (andRight (leb x n) _ h)
 pub commandSmall : (b : ℕ) → commandSize b ≤ 5
 unfolding commandSize operandBytes all
 commandSmall b = let h = entryBelow 4 operandBytes b refl in omega arith
+
+-- the operands of a whole command lie on the tape
+pub operandsLie :
+    (bs : List ℕ) (b k : ℕ) → b ≡ byteOf bs → sizeOf bs ≤ length bs → b ≡ k → commandSize k ≤ length bs
+unfolding sizeOf
+operandsLie bs b k e s q =
+    let h : commandSize (byteOf bs) ≤ length bs = omega arith in rw (sym e ∙ q) at h
 
 -- NUMBERS one after the other
 numbersLength : (n i : ℕ) (bs : List ℕ) → length (numbersFrom n i bs) ≡ n

@@ -1,7 +1,7 @@
 // The decoder: reads the first command of a tape whole, before any operand is judged.
 ghost use mathlib.Core.Path.{_≡_};
 ghost use mathlib.Core.Bool.{true};
-ghost use Prim.Native.Nat.{_+_, _*_, _≤_};
+ghost use Prim.Native.Nat.{_+_, _*_, _≤_, _<_};
 ghost use lib.ListN.{getD, length};
 ghost use Rattle.tape.specs.Tapes.{byteOf, isCommand, numberAt, numbersFrom, sizeOf, commandOf};
 ghost use Rattle.tape.specs.Inner.{meaning, numberOf, Reads};
@@ -18,12 +18,27 @@ fn byte_at(tape: &[u8], i: usize) -> u8
     if i < tape.len() { tape[i] } else { 0 }
 }
 
+// A number of two bytes.
+fn number_of_bytes(low: u8, high: u8) -> u16
+    ensures { λ r. ⌜ r ≡ low + 256 * high ⌝ }
+{
+    low as u16 + 256 * high as u16
+}
+
 // The number in two bytes, low byte first.
 fn number_at(tape: &[u8], i: usize) -> u16
+    requires { ⌜ i + 1 < length (now tape) ⌝ }
+    ensures { λ r. ⌜ r ≡ numberAt (now (tape .entry)) i ⌝ }
+{
+    number_of_bytes(tape[i], tape[i + 1])
+}
+
+// The same where the tape may end before.
+fn number_or_zero(tape: &[u8], i: usize) -> u16
     requires { ⌜ i ≤ 65536 ⌝ }
     ensures { λ r. ⌜ r ≡ numberAt (now (tape .entry)) i ⌝ }
 {
-    byte_at(tape, i) as u16 + 256 * byte_at(tape, i + 1) as u16
+    number_of_bytes(byte_at(tape, i), byte_at(tape, i + 1))
 }
 
 // The bytes of the first command.
@@ -41,18 +56,16 @@ fn size_of(tape: &[u8], byte: u8) -> usize
 
 // The first command. Its operands are numbers here, whatever they are.
 fn instruction_at(tape: &[u8], byte: u8) -> Instruction
-    requires { ⌜ byte ≡ byteOf (now tape) ⌝ }
+    requires { ⌜ (byte ≡ byteOf (now tape)) × (sizeOf (now tape) ≤ length (now tape)) ⌝ }
     ensures { λ r. ⌜ meaning (now (tape .entry)) r ≡ commandOf (now (tape .entry)) ⌝ }
 {
-    let a = number_at(tape, 1);
-    let b = number_at(tape, 3);
     match byte {
-        1 => Instruction::Put(a),
-        2 => Instruction::TakeOut(a),
-        3 => Instruction::Join(Dimension::Edge, a, b),
-        4 => Instruction::Cut(Dimension::Edge, a, b),
-        5 => Instruction::Join(Dimension::Vertex, a, b),
-        6 => Instruction::Cut(Dimension::Vertex, a, b),
+        1 => Instruction::Put(number_at(tape, 1)),
+        2 => Instruction::TakeOut(number_at(tape, 1)),
+        3 => Instruction::Join(Dimension::Edge, number_at(tape, 1), number_at(tape, 3)),
+        4 => Instruction::Cut(Dimension::Edge, number_at(tape, 1), number_at(tape, 3)),
+        5 => Instruction::Join(Dimension::Vertex, number_at(tape, 1), number_at(tape, 3)),
+        6 => Instruction::Cut(Dimension::Vertex, number_at(tape, 1), number_at(tape, 3)),
         7 => Instruction::Report,
         _ => Instruction::RingCut(byte_at(tape, 1)),
     }
@@ -89,7 +102,7 @@ pub fn read_numbers(tape: &[u8], words: &mut [u16])
 {
     let mut k = 0;
     while k < words.len() {
-        words[k] = number_at(tape, 2 + 2 * k);
+        words[k] = number_or_zero(tape, 2 + 2 * k);
         k += 1;
     }
 }

@@ -12,8 +12,8 @@ Inv-loop tape words₀ k₀ words k = Fills tape words₀ words k
 abbrev μ-loop : tie.MeasureT-loop
 μ-loop tape words₀ k₀ words k = length words - k
 
-number-at-requires : tie.Need-number-at-requires Inv-loop μ-loop
-number-at-requires c κs = omega arith
+number-or-zero-requires : tie.Need-number-or-zero-requires Inv-loop μ-loop
+number-or-zero-requires c κs = omega arith
 
 loop-less : tie.Need-loop-less Inv-loop μ-loop
 loop-less c = rw length-set (omega arith)
@@ -21,7 +21,7 @@ loop-less c = rw length-set (omega arith)
 loop-again : tie.Need-loop-again Inv-loop μ-loop
 loop-again c =
     let t = c .before in
-    fillsOn (t .before .loop .inv) (t .loop-test .taken) (c .number-at .ensures)
+    fillsOn (t .before .loop .inv) (t .loop-test .taken) (c .number-or-zero .ensures)
 
 pub read-numbers-spec : {M : Type 1} → statement M
 read-numbers-spec =
@@ -32,7 +32,7 @@ read-numbers-spec =
     (λ c. fillsFirst)
     (λ c. search needs)
     (λ c. search needs)
-    number-at-requires
+    number-or-zero-requires
     (λ c. search needs)
     (λ c. search needs)
     (λ c. search needs)

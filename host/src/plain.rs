@@ -1,0 +1,457 @@
+//! The kernel's algorithms once more in plain, safe Rust, written to be fast: what the benchmark measures the kernel
+//! against. Nothing here is proved, and the compiler puts in the checks that the kernel's proofs make needless.
+
+use crate::binding::{Answer, Run, Totals};
+
+const MAX_WORDS: usize = 16_384;
+const MAX_TAPE: usize = 65_536;
+
+/// Word 0 of a tie, 2 of a cell: the follower; the predecessor stands behind it.
+#[derive(Clone, Copy, PartialEq)]
+pub enum Dimension {
+    Tie = 0,
+    Cell = 2,
+}
+
+fn at(tab: u16) -> usize {
+    4 * (tab as usize - 1)
+}
+
+// SOUNDNESS
+
+fn is_sound(table: &[u16]) -> bool {
+    let capacity = table.len() / 4;
+    let is_number = |x: u16| x != 0 && x as usize <= capacity;
+    table.chunks_exact(4).zip(1u16..).all(|(row, tab)| {
+        if row[0] == 0 {
+            row[1] == 0 && row[2] == 0 && row[3] == 0
+        } else {
+            is_number(row[0]) && is_number(row[2]) && table[at(row[0]) + 1] == tab && table[at(row[2]) + 3] == tab
+        }
+    })
+}
+
+pub fn table_fault(table: &[u16]) -> u8 {
+    if table.len() % 4 != 0 || table.len() > MAX_WORDS {
+        1
+    } else if is_sound(table) {
+        0
+    } else {
+        2
+    }
+}
+
+// PARTS
+
+fn tie_step(table: &[u16], tab: u16) -> u16 {
+    table[at(tab)]
+}
+
+fn cell_step(table: &[u16], tab: u16) -> u16 {
+    table[at(tab) + 2]
+}
+
+fn gap_step(table: &[u16], tab: u16) -> u16 {
+    table[at(table[at(tab) + 1]) + 3]
+}
+
+fn mark_orbit(table: &[u16], step: impl Fn(&[u16], u16) -> u16, tab: u16, marks: &mut [u16]) {
+    let mut x = tab;
+    loop {
+        marks[x as usize - 1] = tab;
+        x = step(table, x);
+        if x == tab {
+            return;
+        }
+    }
+}
+
+/// Marks every orbit with its smallest tab; how many there are.
+fn mark_orbits(table: &[u16], step: impl Fn(&[u16], u16) -> u16 + Copy, marks: &mut [u16]) -> u32 {
+    let mut count = 0;
+    for tab in 1..=(table.len() / 4) as u16 {
+        if table[at(tab)] != 0 && marks[tab as usize - 1] == 0 {
+            mark_orbit(table, step, tab, marks);
+            count += 1;
+        }
+    }
+    count
+}
+
+fn count_orbits(table: &[u16], step: impl Fn(&[u16], u16) -> u16 + Copy) -> u32 {
+    let mut marks = [0; 4096];
+    mark_orbits(table, step, &mut marks)
+}
+
+fn count_pieces(table: &[u16]) -> u32 {
+    let mut marks = [0u16; 4096];
+    let mut queue = [0u16; 4096];
+    let mut count = 0;
+    for tab in 1..=(table.len() / 4) as u16 {
+        if table[at(tab)] == 0 || marks[tab as usize - 1] != 0 {
+            continue;
+        }
+        count += 1;
+        marks[tab as usize - 1] = tab;
+        queue[0] = tab;
+        let (mut head, mut tail) = (0, 1);
+        while head < tail {
+            let row = at(queue[head]);
+            head += 1;
+            for next in [table[row], table[row + 2]] {
+                if marks[next as usize - 1] == 0 {
+                    marks[next as usize - 1] = tab;
+                    queue[tail] = next;
+                    tail += 1;
+                }
+            }
+        }
+    }
+    count
+}
+
+fn counts(table: &[u16]) -> Totals {
+    let tabs = table.chunks_exact(4).filter(|row| row[0] != 0).count() as u32;
+    let (ties, cells, gaps) =
+        (count_orbits(table, tie_step), count_orbits(table, cell_step), count_orbits(table, gap_step));
+    let pieces = count_pieces(table);
+    let characteristic = cells as i32 + ties as i32 + gaps as i32 - tabs as i32;
+    let handles = ((2 * pieces as i32 - characteristic) / 2) as u32;
+    Totals { number: 0, tabs, ties, cells, gaps, pieces, characteristic, handles, lifts: pieces }
+}
+
+pub fn report(table: &[u16]) -> Totals {
+    match table_fault(table) {
+        0 => counts(table),
+        number => Totals { number, ..Totals::default() },
+    }
+}
+
+// COMMANDS on a sound table
+
+fn is_present(table: &[u16], tab: u16) -> bool {
+    table[at(tab)] != 0
+}
+
+fn presence(table: &[u16], tabs: &[u16]) -> u8 {
+    let capacity = table.len() / 4;
+    if tabs.iter().any(|&t| t == 0 || t as usize > capacity) {
+        3
+    } else if tabs.iter().any(|&t| !is_present(table, t)) {
+        4
+    } else {
+        0
+    }
+}
+
+/// Walks from both tabs in lockstep, so that the shorter orbit is the cost.
+fn together(table: &[u16], dimension: Dimension, a: u16, b: u16) -> bool {
+    let next = |x: u16| table[at(x) + dimension as usize];
+    let (mut x, mut y) = (a, b);
+    loop {
+        if x == b {
+            return true;
+        }
+        x = next(x);
+        if x == a {
+            return false;
+        }
+        if y == a {
+            return true;
+        }
+        y = next(y);
+        if y == b {
+            return false;
+        }
+    }
+}
+
+fn swap(table: &mut [u16], dimension: Dimension, a: u16, b: u16) {
+    let next = dimension as usize;
+    let (before_a, before_b) = (table[at(a) + next + 1], table[at(b) + next + 1]);
+    table[at(a) + next + 1] = before_b;
+    table[at(b) + next + 1] = before_a;
+    table[at(before_b) + next] = a;
+    table[at(before_a) + next] = b;
+}
+
+fn set_all(table: &mut [u16], tab: u16, word: u16) {
+    table[at(tab)..at(tab) + 4].fill(word);
+}
+
+fn put_on(table: &mut [u16], tab: u16) -> u8 {
+    if tab == 0 || tab as usize > table.len() / 4 {
+        return 3;
+    }
+    if is_present(table, tab) {
+        return 5;
+    }
+    set_all(table, tab, tab);
+    0
+}
+
+fn take_out_on(table: &mut [u16], tab: u16) -> u8 {
+    match presence(table, &[tab]) {
+        0 if tie_step(table, tab) != tab || cell_step(table, tab) != tab => 6,
+        0 => {
+            set_all(table, tab, 0);
+            0
+        }
+        fault => fault,
+    }
+}
+
+fn join_on(table: &mut [u16], dimension: Dimension, a: u16, b: u16) -> u8 {
+    match presence(table, &[a, b]) {
+        0 if together(table, dimension, a, b) => 7,
+        0 => {
+            swap(table, dimension, a, b);
+            0
+        }
+        fault => fault,
+    }
+}
+
+fn cut_on(table: &mut [u16], dimension: Dimension, a: u16, b: u16) -> u8 {
+    match presence(table, &[a, b]) {
+        0 if !together(table, dimension, a, b) => 8,
+        0 if a == b => 9,
+        0 => {
+            swap(table, dimension, a, b);
+            0
+        }
+        fault => fault,
+    }
+}
+
+pub fn put(table: &mut [u16], tab: u16) -> u8 {
+    match table_fault(table) {
+        0 => put_on(table, tab),
+        fault => fault,
+    }
+}
+
+pub fn join(table: &mut [u16], dimension: Dimension, a: u16, b: u16) -> u8 {
+    match table_fault(table) {
+        0 => join_on(table, dimension, a, b),
+        fault => fault,
+    }
+}
+
+// RINGS
+
+fn mark_firsts(table: &[u16], step: impl Fn(&[u16], u16) -> u16 + Copy, ring: &[u16], marks: &mut [u16]) -> bool {
+    let mut apart = true;
+    for pair in ring.chunks_exact(2) {
+        if marks[pair[0] as usize - 1] == 0 {
+            mark_orbit(table, step, pair[0], marks);
+        } else {
+            apart = false;
+        }
+    }
+    apart
+}
+
+fn ring_fault(table: &[u16], ring: &[u16]) -> u8 {
+    if ring.is_empty() || ring.len() % 2 != 0 || ring.len() > 4096 {
+        return 10;
+    }
+    let fault = presence(table, ring);
+    if fault != 0 {
+        return fault;
+    }
+    let mark = |marks: &[u16], tab: u16| marks[tab as usize - 1];
+    let mut ties = [0; 4096];
+    let ties_apart = mark_firsts(table, tie_step, ring, &mut ties);
+    if ring.chunks_exact(2).any(|pair| mark(&ties, pair[0]) != mark(&ties, pair[1])) {
+        return 8;
+    }
+    if ring.chunks_exact(2).any(|pair| pair[0] == pair[1]) {
+        return 9;
+    }
+    if !ties_apart {
+        return 11;
+    }
+    let mut gaps = [0; 4096];
+    if !mark_firsts(table, gap_step, ring, &mut gaps) {
+        return 12;
+    }
+    let firsts = ring.iter().step_by(2).skip(1).chain([&ring[0]]);
+    if ring.iter().skip(1).step_by(2).zip(firsts).any(|(&second, &first)| mark(&gaps, second) != first) {
+        return 13;
+    }
+    0
+}
+
+fn ring_cut_on(table: &mut [u16], ring: &[u16]) -> u8 {
+    let fault = ring_fault(table, ring);
+    if fault == 0 {
+        for pair in ring.chunks_exact(2) {
+            swap(table, Dimension::Tie, pair[0], pair[1]);
+        }
+    }
+    fault
+}
+
+pub fn ring_cut(table: &mut [u16], ring: &[u16]) -> u8 {
+    match table_fault(table) {
+        0 => ring_cut_on(table, ring),
+        fault => fault,
+    }
+}
+
+// TAPES
+
+const OPERAND_BYTES: [u8; 9] = [0, 2, 2, 4, 4, 4, 4, 0, 1];
+
+fn number_at(tape: &[u8], i: usize) -> u16 {
+    u16::from_le_bytes([tape[i], tape[i + 1]])
+}
+
+fn command_size(tape: &[u8]) -> Result<usize, u8> {
+    let byte = tape[0] as usize;
+    if byte == 0 || byte >= OPERAND_BYTES.len() {
+        return Err(15);
+    }
+    let mut size = 1 + OPERAND_BYTES[byte] as usize;
+    if byte == 8 {
+        size += 4 * tape.get(1).map_or(0, |&count| count as usize);
+    }
+    if tape.len() < size {
+        Err(16)
+    } else {
+        Ok(size)
+    }
+}
+
+fn perform(table: &mut [u16], tape: &[u8]) -> u8 {
+    match tape[0] {
+        1 => put_on(table, number_at(tape, 1)),
+        2 => take_out_on(table, number_at(tape, 1)),
+        3 => join_on(table, Dimension::Tie, number_at(tape, 1), number_at(tape, 3)),
+        4 => cut_on(table, Dimension::Tie, number_at(tape, 1), number_at(tape, 3)),
+        5 => join_on(table, Dimension::Cell, number_at(tape, 1), number_at(tape, 3)),
+        6 => cut_on(table, Dimension::Cell, number_at(tape, 1), number_at(tape, 3)),
+        7 => 0,
+        _ => {
+            let mut words = [0; 510];
+            let count = 2 * tape[1] as usize;
+            for (word, pair) in words[..count].iter_mut().zip(tape[2..].chunks_exact(2)) {
+                *word = u16::from_le_bytes([pair[0], pair[1]]);
+            }
+            ring_cut_on(table, &words[..count])
+        }
+    }
+}
+
+fn run(table: &mut [u16], tape: &[u8]) -> Run {
+    let (mut rest, mut accepted) = (tape, 0);
+    while !rest.is_empty() {
+        let size = match command_size(rest) {
+            Ok(size) => size,
+            Err(number) => return Run { number, accepted },
+        };
+        let number = perform(table, rest);
+        if number != 0 {
+            return Run { number, accepted };
+        }
+        accepted += 1;
+        rest = &rest[size..];
+    }
+    Run { number: 0, accepted }
+}
+
+pub fn play(table: &mut [u16], tape: &[u8]) -> Run {
+    if tape.len() > MAX_TAPE {
+        return Run { number: 1, accepted: 0 };
+    }
+    match table_fault(table) {
+        0 => run(table, tape),
+        number => Run { number, accepted: 0 },
+    }
+}
+
+fn write_joins(
+    table: &[u16],
+    step: impl Fn(&[u16], u16) -> u16,
+    code: u8,
+    marks: &[u16],
+    out: &mut [u8],
+    from: usize,
+) -> usize {
+    let mut place = from;
+    for tab in 1..=(table.len() / 4) as u16 {
+        if marks[tab as usize - 1] != tab {
+            continue;
+        }
+        let mut next = step(table, tab);
+        while next != tab {
+            let command = &mut out[place..place + 5];
+            command[0] = code;
+            command[1..3].copy_from_slice(&tab.to_le_bytes());
+            command[3..5].copy_from_slice(&next.to_le_bytes());
+            place += 5;
+            next = step(table, next);
+        }
+    }
+    place
+}
+
+fn write_on(table: &[u16], out: &mut [u8]) -> Answer {
+    let (mut tie_marks, mut cell_marks) = ([0; 4096], [0; 4096]);
+    let tabs = table.chunks_exact(4).filter(|row| row[0] != 0).count();
+    let ties = mark_orbits(table, tie_step, &mut tie_marks) as usize;
+    let cells = mark_orbits(table, cell_step, &mut cell_marks) as usize;
+    let size = 13 * tabs - 5 * (ties + cells);
+    if out.len() < size {
+        return Answer { number: 14, ..Answer::default() };
+    }
+    let mut place = 0;
+    for tab in 1..=(table.len() / 4) as u16 {
+        if is_present(table, tab) {
+            let command = &mut out[place..place + 3];
+            command[0] = 1;
+            command[1..3].copy_from_slice(&tab.to_le_bytes());
+            place += 3;
+        }
+    }
+    place = write_joins(table, tie_step, 3, &tie_marks, out, place);
+    write_joins(table, cell_step, 5, &cell_marks, out, place);
+    Answer { number: 0, yes: false, count: size as u32 }
+}
+
+pub fn write_tape(table: &[u16], out: &mut [u8]) -> Answer {
+    match table_fault(table) {
+        0 => write_on(table, out),
+        number => Answer { number, ..Answer::default() },
+    }
+}
+
+pub fn screen(tape: &[u8], out: &mut [u8]) -> u8 {
+    if tape.len() > MAX_TAPE {
+        return 1;
+    }
+    if out.len() < 53_278 {
+        return 14;
+    }
+    let mut table = [0u16; MAX_WORDS];
+    let run = run(&mut table, tape);
+    let c = counts(&table);
+    let numbers = [
+        u32::from(run.number),
+        run.accepted,
+        c.tabs,
+        c.ties,
+        c.cells,
+        c.gaps,
+        c.pieces,
+        c.characteristic as u32,
+        c.handles,
+        c.lifts,
+    ];
+    for (four, number) in out.chunks_exact_mut(4).zip(numbers) {
+        four.copy_from_slice(&number.to_le_bytes());
+    }
+    write_on(&table, &mut out[40..]);
+    0
+}
