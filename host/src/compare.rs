@@ -4,6 +4,7 @@
 use crate::binding::{self, Answer, Run, Totals};
 use crate::guarded::Guarded;
 use crate::second::{self, Command, Dimension, Part, Plan, Tab};
+use std::fmt::Debug;
 
 /// What was met: how often each refusal, 0 for what was accepted; rings that were cut; plans with handles.
 #[derive(Default)]
@@ -126,63 +127,75 @@ impl Lent {
         number
     }
 
+    /// Asks a question, which must leave the table as it was.
+    fn ask<R>(&self, what: &str, question: impl FnOnce(&[u16]) -> R) -> R {
+        let before = self.words.to_vec();
+        let answer = question(&self.words);
+        assert_eq!(&self.words[..], &before[..], "words after {what}");
+        answer
+    }
+
     pub fn report(&self, met: &mut Met) {
         let expected = match &self.plan {
             Ok(plan) => totals(plan),
             Err(number) => Totals { number: *number, ..Totals::default() },
         };
-        assert_eq!(binding::report(&self.words), expected, "report of {:?}", &self.words[..]);
+        assert_eq!(self.ask("a report", binding::report), expected, "report of {:?}", &self.words[..]);
         met.note(expected.number);
         met.with_handles += u64::from(expected.handles > 0);
     }
 
     pub fn same(&self, met: &mut Met, part: Part, a: Tab, b: Tab) {
-        let answer = match part {
-            Part::Tie => binding::same_edge(&self.words, a, b),
-            Part::Cell => binding::same_vertex(&self.words, a, b),
-            Part::Gap => binding::same_face(&self.words, a, b),
-            Part::Piece => binding::same_component(&self.words, a, b),
-        };
+        let answer = self.ask("same", |words| match part {
+            Part::Tie => binding::same_edge(words, a, b),
+            Part::Cell => binding::same_vertex(words, a, b),
+            Part::Gap => binding::same_face(words, a, b),
+            Part::Piece => binding::same_component(words, a, b),
+        });
         let number = self.question_fault(&[a, b]);
         let yes = number == 0 && self.plan().part(part, a).contains(&b);
         assert_eq!(answer, Answer { number, yes, count: 0 }, "same {part:?} of {a} and {b}");
         met.note(number);
     }
 
+    /// A question that writes a list into a buffer.
+    fn list<T: Copy + PartialEq + Debug>(
+        &self,
+        met: &mut Met,
+        what: &str,
+        expected: (u8, &[T]),
+        buffer: &[T],
+        question: impl FnOnce(&[u16], &mut [T]) -> Answer,
+    ) {
+        let mut out = Guarded::new(buffer);
+        let (expected, after) = listed(expected.0, expected.1, buffer);
+        let answer = self.ask(what, |words| question(words, &mut out));
+        assert_eq!(answer, expected, "{what} into {}", buffer.len());
+        assert_eq!(&out[..], &after[..], "buffer of {what}");
+        met.note(expected.number);
+    }
+
     pub fn round(&self, met: &mut Met, part: Part, tab: Tab, room: usize) {
-        let mut out = Guarded::new(&vec![0xEEEE; room]);
         let fault = self.question_fault(&[tab]);
         let list: Vec<u16> = match fault {
             0 => self.plan().part(part, tab).iter().map(|&t| t as u16).collect(),
             _ => vec![],
         };
-        let (expected, after) = listed(fault, &list, &out);
-        let answer = match part {
-            Part::Tie => binding::edge_round(&self.words, tab, &mut out),
-            Part::Cell => binding::vertex_round(&self.words, tab, &mut out),
-            _ => binding::face_round(&self.words, tab, &mut out),
-        };
-        assert_eq!(answer, expected, "round of {part:?} from {tab} into {room}");
-        assert_eq!(&out[..], &after[..], "buffer of a round");
-        met.note(expected.number);
+        self.list(met, "a round", (fault, &list), &vec![0xEEEE; room], |words, out| match part {
+            Part::Tie => binding::edge_round(words, tab, out),
+            Part::Cell => binding::vertex_round(words, tab, out),
+            _ => binding::face_round(words, tab, out),
+        });
     }
 
     pub fn marks(&self, met: &mut Met, room: usize) {
-        let mut out = Guarded::new(&vec![0xEEEE; room]);
-        let (expected, after) = listed(self.fault(), &self.plan().marks(), &out);
-        let answer = binding::component_marks(&self.words, &mut out);
-        assert_eq!(answer, expected, "marks into {room}");
-        assert_eq!(&out[..], &after[..], "buffer of marks");
-        met.note(expected.number);
+        let marks = self.plan().marks();
+        self.list(met, "marks", (self.fault(), &marks), &vec![0xEEEE; room], binding::component_marks);
     }
 
     pub fn write_tape(&self, met: &mut Met, room: usize) {
-        let mut out = Guarded::new(&vec![0xEE; room]);
-        let (expected, after) = listed(self.fault(), &self.plan().tape(), &out);
-        let answer = binding::write_tape(&self.words, &mut out);
-        assert_eq!(answer, expected, "tape into {room}");
-        assert_eq!(&out[..], &after[..], "buffer of a tape");
-        met.note(expected.number);
+        let tape = self.plan().tape();
+        self.list(met, "a tape", (self.fault(), &tape), &vec![0xEE; room], binding::write_tape);
     }
 
     pub fn play(&mut self, met: &mut Met, tape: &[u8]) -> Run {

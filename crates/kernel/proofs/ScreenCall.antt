@@ -1,7 +1,7 @@
 -- The screen's call: what it answers and leaves. Assumes nothing.
 use mathlib.Core.Path.{_≡_, refl, _∙_}
 use mathlib.Core.List.{List, _++_}
-use Prim.Native.Nat.{ℕ, _+_, _*_, _-_, _≤_, _<_}
+use Prim.Native.Nat.{ℕ, _*_, _≤_, _<_}
 use lib.ListN.{length, drop, replicate}
 use borrow.Author.Tests.{le-leb, lt-leb}
 use Rattle.table.specs.Refusals.{wrongSize, shortRoom, orElse, unless}
