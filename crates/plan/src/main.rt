@@ -6,6 +6,7 @@ use parts::count;
 use tape::Instruction;
 use tape::Reading;
 use tape::decode;
+use tape::operands;
 use tape::step;
 
 mod text;
@@ -27,10 +28,11 @@ fn write_accepted(table: &[u16], instruction: Instruction, out: &mut [u8], at: u
 fn run(table: &mut [u16], tape: &[u8], out: &mut [u8])
     requires { ⌜ Counted (now table) ⌝ }
 {
+    let operand_bytes = operands::OPERAND_BYTES;
     let mut at = 0;
     let mut rest = tape;
     while 0 < rest.len() {
-        let reading = decode::read(rest);
+        let reading = decode::read(rest, &operand_bytes);
         let Reading::Whole(instruction, size) = reading else {
             text::end_refused(out, at, decode::number_of(reading));
             return;

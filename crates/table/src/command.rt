@@ -29,15 +29,12 @@ pub fn dart_fault(table: &[u16], x: u16) -> u8
 pub fn darts_fault(table: &[u16], a: u16, b: u16) -> u8
     ensures { λ r. ⌜ r ≡ presenceFault (now (table .entry)) (a ∷ b ∷ []) ⌝ }
 {
-    refusal::or_else(
-        refusal::unless_so(
-            words::is_number(table, a) & words::is_number(table, b),
-            refusal::OFF_THE_TABLE,
-        ),
-        refusal::unless_so(
-            words::is_present(table, a) & words::is_present(table, b),
-            refusal::NO_TAB,
-        ),
+    if !(words::is_number(table, a) & words::is_number(table, b)) {
+        return refusal::OFF_THE_TABLE;
+    }
+    refusal::unless_so(
+        (0 < words::word(table, a, 0)) & (0 < words::word(table, b, 0)),
+        refusal::NO_TAB,
     )
 }
 

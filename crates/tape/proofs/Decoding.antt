@@ -26,9 +26,13 @@ entryBelow n [] i h = omega arith
 entryBelow n (x ∷ l) zero h = leb-true x n (andLeft (leb x n) _ h)
 entryBelow n (x ∷ l) (suc i) h = entryBelow n l i (andRight (leb x n) _ h)
 
+pub entrySmall : {l : List ℕ} → l ≡ operandBytes → (b : ℕ) → getD l b 0 ≤ 4
+unfolding operandBytes all
+entrySmall e b = rw e (entryBelow 4 operandBytes b refl)
+
 pub commandSmall : (b : ℕ) → commandSize b ≤ 5
-unfolding commandSize operandBytes all
-commandSmall b = let h = entryBelow 4 operandBytes b refl in omega arith
+unfolding commandSize
+commandSmall b = let h = entrySmall refl b in omega arith
 
 -- the operands of a whole command lie on the tape
 pub operandsLie :

@@ -4,6 +4,7 @@ ghost use mathlib.Core.Bool.{true};
 ghost use Prim.Native.Nat.{_+_, _*_, _≤_, _<_};
 ghost use lib.ListN.{getD, length};
 ghost use Rattle.tape.specs.Tapes.{byteOf, isCommand, numberAt, numbersFrom, sizeOf, commandOf};
+ghost use Rattle.tape.specs.Tapes.{operandBytes};
 ghost use Rattle.tape.specs.Inner.{meaning, numberOf, Reads};
 use crate::Instruction;
 use crate::Reading;
@@ -42,11 +43,11 @@ fn number_or_zero(tape: &[u8], i: usize) -> u16
 }
 
 // The bytes of the first command.
-fn size_of(tape: &[u8], byte: u8) -> usize
-    requires { ⌜ (byte ≡ byteOf (now tape)) × (isCommand byte ≡ true) ⌝ }
+fn size_of(tape: &[u8], byte: u8, operand_bytes: &[u8]) -> usize
+    requires { ⌜ (byte ≡ byteOf (now tape)) × (isCommand byte ≡ true) × (now «operand_bytes» ≡ operandBytes) ⌝ }
     ensures { λ r. ⌜ r ≡ sizeOf (now (tape .entry)) ⌝ }
 {
-    let size = operands::command_size(byte);
+    let size = operands::command_size(operand_bytes, byte);
     if byte == operands::RING_CUT {
         size + 4 * operands::wide(byte_at(tape, 1))
     } else {
@@ -71,14 +72,15 @@ fn instruction_at(tape: &[u8], byte: u8) -> Instruction
     }
 }
 
-pub fn read(tape: &[u8]) -> Reading
+pub fn read(tape: &[u8], operand_bytes: &[u8]) -> Reading
+    requires { ⌜ now «operand_bytes» ≡ operandBytes ⌝ }
     ensures { λ r. ⌜ Reads (now (tape .entry)) r ⌝ }
 {
     let byte = byte_at(tape, 0);
     if !operands::is_command(byte) {
         return Reading::Refused(refusal::UNKNOWN_COMMAND);
     }
-    let size = size_of(tape, byte);
+    let size = size_of(tape, byte, operand_bytes);
     if tape.len() < size {
         return Reading::Refused(refusal::TORN_COMMAND);
     }

@@ -1,10 +1,11 @@
 // The bytes of commands: one table, for the decoder and the writer.
 ghost use mathlib.Core.Path.{_≡_};
 ghost use mathlib.Core.Bool.{true};
-ghost use Rattle.tape.specs.Tapes.{isCommand, commandSize};
+ghost use Rattle.tape.specs.Tapes.{operandBytes, isCommand, commandSize};
 
-// Operand bytes by command byte. No command has the byte 0; a ring's entry is the one byte before its pairs.
-const OPERAND_BYTES: [u8; 9] = [0, 2, 2, 4, 4, 4, 4, 0, 1];
+// Operand bytes by command byte. No command has the byte 0; a ring's entry is the one byte before its pairs. A caller
+// lends it: the compiler builds a constant array anew wherever it is named, and a run would pay that for each command.
+pub const OPERAND_BYTES: [u8; 9] = [0, 2, 2, 4, 4, 4, 4, 0, 1];
 
 pub const PUT: u8 = 1;
 
@@ -27,10 +28,10 @@ pub fn is_command(byte: u8) -> bool
 }
 
 // A command's own byte and its operand bytes.
-pub fn command_size(byte: u8) -> usize
-    requires { ⌜ isCommand byte ≡ true ⌝ }
+pub fn command_size(operand_bytes: &[u8], byte: u8) -> usize
+    requires { ⌜ (now «operand_bytes» ≡ operandBytes) × (isCommand byte ≡ true) ⌝ }
     ensures { λ r. ⌜ r ≡ commandSize byte ⌝ }
 {
     let at = wide(byte);
-    1 + wide(OPERAND_BYTES[at])
+    1 + wide(operand_bytes[at])
 }

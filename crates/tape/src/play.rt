@@ -5,6 +5,7 @@ ghost use Rattle.tape.specs.Inner.{Playable};
 use crate::Reading;
 use crate::Run;
 use crate::decode;
+use crate::operands;
 use crate::step;
 
 pub fn play(table: &mut [u16], tape: &[u8]) -> Run
@@ -12,10 +13,11 @@ pub fn play(table: &mut [u16], tape: &[u8]) -> Run
     ensures { λ r. ⌜ r ≡ toldOf (runOf (now (table .entry)) (now (tape .entry))) ⌝ }
     ensures table { λ r. ⌜ now (table .exit) ≡ runOf (now (table .entry)) (now (tape .entry)) .table ⌝ }
 {
+    let operand_bytes = operands::OPERAND_BYTES;
     let mut rest = tape;
     let mut accepted: u32 = 0;
     while 0 < rest.len() {
-        let reading = decode::read(rest);
+        let reading = decode::read(rest, &operand_bytes);
         let Reading::Whole(instruction, size) = reading else {
             return Run {
                 number: decode::number_of(reading),

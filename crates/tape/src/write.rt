@@ -120,9 +120,10 @@ fn tape_size(darts: u32, edges: u32, vertices: u32) -> u32
     requires { ⌜ (darts ≤ 4096) × (edges ≤ darts) × (vertices ≤ darts) ⌝ }
     ensures { λ r. ⌜ r + 5 * (edges + vertices) ≡ 13 * darts ⌝ }
 {
-    operands::command_size(operands::PUT) as u32 * darts
-        + operands::command_size(operands::EDGE_JOIN) as u32 * (darts - edges)
-        + operands::command_size(operands::VERTEX_JOIN) as u32 * (darts - vertices)
+    let operand_bytes = operands::OPERAND_BYTES;
+    operands::command_size(&operand_bytes, operands::PUT) as u32 * darts
+        + operands::command_size(&operand_bytes, operands::EDGE_JOIN) as u32 * (darts - edges)
+        + operands::command_size(&operand_bytes, operands::VERTEX_JOIN) as u32 * (darts - vertices)
 }
 
 // With room for a mark of each dart in each dimension.

@@ -10,8 +10,9 @@ use lotskadi_host::{binding, plain};
 use std::hint::black_box;
 use std::time::Instant;
 
-/// How many plans a row rotates.
-const PLANS: usize = 8;
+/// How many plans a row rotates: too many for the processor's branch predictor to learn by heart. With eight, small
+/// plans come out faster than large ones for that reason alone.
+const PLANS: usize = 128;
 /// How often all rows are measured.
 const PASSES: usize = 9;
 
@@ -47,7 +48,7 @@ fn measure<I>(
     (median(&mut ours), median(&mut theirs))
 }
 
-/// Microseconds of one call.
+/// Microseconds of one call; its input was copied just before, and so is in the cache, whatever its size.
 fn timed<R>(call: impl FnOnce() -> R) -> f64 {
     let start = Instant::now();
     black_box(call());
@@ -64,9 +65,12 @@ fn scattered(random: &mut Random, plan: &Plan) -> Plan {
     Plan { capacity: plan.capacity, tie: renamed(&plan.tie), cell: renamed(&plan.cell) }
 }
 
+/// As square as it can be with all tabs in it, so that plans of each size are equally full.
 fn grid(capacity: usize) -> Plan {
-    let side = ((capacity / 4) as f64).sqrt() as usize;
-    Grid::new(side, side + 1, capacity).plan
+    let side = ((capacity / 4) as f64).sqrt() as usize + 2;
+    let plan = Grid::new(side, side, capacity).plan;
+    assert_eq!(plan.tie.len(), capacity);
+    plan
 }
 
 fn random_plan(random: &mut Random, capacity: usize) -> Plan {
@@ -156,8 +160,14 @@ impl Bench {
             rows.push(self.row(
                 name,
                 tables,
-                |words| timed(|| binding::report(words)),
-                |words| timed(|| plain::report(words)),
+                |words| {
+                    let table = words.clone();
+                    timed(|| binding::report(&table))
+                },
+                |words| {
+                    let table = words.clone();
+                    timed(|| plain::report(&table))
+                },
             ));
         }
         rows.push(self.row(
@@ -175,8 +185,14 @@ impl Bench {
         rows.push(self.row(
             "write a tape",
             &scattered,
-            |words| timed(|| assert_eq!(binding::write_tape(words, &mut out).number, 0)),
-            |words| timed(|| assert_eq!(plain::write_tape(words, &mut other).number, 0)),
+            |words| {
+                let table = words.clone();
+                timed(|| assert_eq!(binding::write_tape(&table, &mut out).number, 0))
+            },
+            |words| {
+                let table = words.clone();
+                timed(|| assert_eq!(plain::write_tape(&table, &mut other).number, 0))
+            },
         ));
         for (name, ties) in [("ring of 255", 255), ("ring of 2,048", 2048)] {
             if 2 * ties > capacity {
@@ -236,6 +252,11 @@ fn two_tabs(words: &Vec<u16>) -> (Vec<u16>, u16, u16) {
     (words.clone(), present[0], present[present.len() / 2])
 }
 
+fn growth(rows: &[&Row], time: impl Fn(&Row) -> f64) -> String {
+    let factors: Vec<String> = rows.windows(2).map(|w| format!("{:.2}", time(w[1]) / time(w[0]))).collect();
+    factors.join(" ")
+}
+
 fn main() {
     let arguments: Vec<String> = std::env::args().collect();
     let rounds = match arguments.iter().position(|a| a == "--rounds") {
@@ -259,11 +280,12 @@ fn main() {
     for row in &best[3] {
         println!("{:28} {:8.2} {:8.2} {:6.2}", row.name, row.kernel, row.plain, row.kernel / row.plain);
     }
-    println!("growth of the kernel for each doubling, 512 to 4,096 tabs:");
+    println!("growth for each doubling, 512 to 4,096 tabs:");
+    println!("{:28} {:>14}   {:>14}", "", "kernel", "Rust");
     for row in &best[3] {
-        let times: Vec<f64> =
-            best.iter().filter_map(|rows| rows.iter().find(|r| r.name == row.name).map(|r| r.kernel)).collect();
-        let growth: Vec<String> = times.windows(2).map(|w| format!("{:.2}", w[1] / w[0])).collect();
-        println!("{:28} {}", row.name, growth.join(" "));
+        let times: Vec<&Row> = best.iter().filter_map(|rows| rows.iter().find(|r| r.name == row.name)).collect();
+        if times.len() == sizes.len() {
+            println!("{:28} {}   {}", row.name, growth(&times, |r| r.kernel), growth(&times, |r| r.plain));
+        }
     }
 }

@@ -9,7 +9,8 @@ use Rattle.tape.proofs.decode.read.Statement.{statement}
 use Rattle.tape.proofs.decode.read.Tie as tie
 
 known :
-    (k : tie.After-is-command) → k .is-command .result ≡ isCommand (byteOf (k .before .before .before .args .tape .now))
+    (k : tie.After-is-command) →
+    k .is-command .result ≡ isCommand (byteOf (k .before .before .before .before .args .tape .now))
 known k = k .is-command .ensures ∙ ap isCommand (k .before .byte-at .ensures)
 
 returns : tie.Need-returns
@@ -19,7 +20,8 @@ returns c = (stageStop _ _ _ _ (omega arith) (known (c .before)) (c .if1 .taken)
 size-of-requires : tie.Need-size-of-requires
 size-of-requires c κs =
     let k = c .before in
-    (k .before .byte-at .ensures, sym (k .is-command .ensures) ∙ not-false _ (c .if1 .left))
+    let s = k .before .before .before .before .pre in
+    (k .before .byte-at .ensures, sym (k .is-command .ensures) ∙ not-false _ (c .if1 .left), s)
 
 returns-2 : tie.Need-returns-2
 unfolding readFault unless

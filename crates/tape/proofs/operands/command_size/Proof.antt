@@ -1,15 +1,21 @@
 use borrow.Author.Needs.{needs}
 use Rattle.tape.specs.Tapes.{commandSize, operandBytes}
-use Rattle.tape.proofs.Decoding.{commandBelow, commandSmall}
+use Rattle.tape.proofs.Decoding.{commandBelow, entrySmall}
 use Rattle.tape.proofs.operands.command_size.Statement.{statement}
 use Rattle.tape.proofs.operands.command_size.Tie as tie
 
-array-read-wide : tie.Need-array-read-wide
-array-read-wide c = let h = commandBelow _ (c .before .pre) in search needs
+shared-slice-read-wide : tie.Need-shared-slice-read-wide
+unfolding operandBytes
+shared-slice-read-wide c =
+    let p = c .before .before .before .pre in
+    let h = commandBelow _ (p .1) in
+    rw (p .0) (search needs)
 
 add-result : tie.Need-add-result
-unfolding commandSize operandBytes
-add-result c = let h = commandSmall (c .before .wide .result) in search needs
+add-result c =
+    let w = c .before .before in
+    let h = entrySmall (w .before .before .pre .0) (w .wide .result) in
+    search needs
 
 returns : tie.Need-returns
 unfolding commandSize operandBytes
@@ -20,7 +26,7 @@ command-size-spec =
     tie.close
     (tie.spec
     (λ c κs. search needs)
-    array-read-wide
+    shared-slice-read-wide
     (λ c κs. search needs)
     add-result
     returns)

@@ -1,47 +1,52 @@
 use borrow.Author.Needs.{needs}
 use native.Mathlib.Omega.{arith}
-use mathlib.Core.Path.{_∙_}
+use mathlib.Core.Path.{refl, _∙_}
 use lib.ListN.{length}
+use Rattle.tape.specs.Tapes.{operandBytes}
 use Rattle.tape.proofs.Playing.{wholeFits, restLess}
 use Rattle.tape.proofs.Playing.{Playing, playingFirst, playingEnd, playingRefused, playingStopped, playingOn}
 use Rattle.tape.proofs.play.play.Statement.{statement}
 use Rattle.tape.proofs.play.play.Tie as tie
 
 abbrev Inv-loop : tie.InvT-loop
-Inv-loop table₀ tape rest₀ accepted₀ table rest accepted = Playing table₀ tape table rest accepted
+Inv-loop table₀ tape operand-bytes rest₀ accepted₀ table rest accepted = Playing table₀ tape table rest accepted
 
 abbrev μ-loop : tie.MeasureT-loop
-μ-loop table₀ tape rest₀ accepted₀ table rest accepted = length rest
+μ-loop table₀ tape operand-bytes rest₀ accepted₀ table rest accepted = length rest
 
 loop-holds : tie.Need-loop-holds Inv-loop μ-loop
 loop-holds c = playingFirst _ _ (c .before .before .pre)
 
+read-requires : tie.Need-read-requires Inv-loop μ-loop
+unfolding operandBytes
+read-requires c κs = refl
+
 same-length : tie.Need-same-length Inv-loop μ-loop
-same-length c = c .before .before .before .before .before .loop .inv .size
+same-length c = c .before .before .before .before .before .before .loop .inv .size
 
 returns : tie.Need-returns Inv-loop μ-loop
 returns c =
     let e = c .before in
     let d = e .before .before in
-    let l = d .before .before in
-    playingRefused _ _ _ _ _ (l .loop .inv) (d .before .loop-test .taken) _ (d .read .ensures) _ _
+    let l = d .before .before .before in
+    playingRefused _ _ _ _ _ (l .loop .inv) (d .before .before .loop-test .taken) _ (d .read .ensures) _ _
     (e .enum-told .given .1) (c .number-of .ensures)
 
 perform-requires : tie.Need-perform-requires Inv-loop μ-loop
-perform-requires c κs = c .before .before .before .before .before .before .loop .inv .table
+perform-requires c κs = c .before .before .before .before .before .before .before .loop .inv .table
 
 same-length-2 : tie.Need-same-length-2 Inv-loop μ-loop
 same-length-2 c =
     let p = c .before .before .before in
-    p .perform .kept .0 ∙ p .before .before .before .before .before .before .before .loop .inv .size
+    p .perform .kept .0 ∙ p .before .before .before .before .before .before .before .before .loop .inv .size
 
 returns-2 : tie.Need-returns-2 Inv-loop μ-loop
 returns-2 c =
     let p = c .before .before .before in
     let r = p .before .before .before in
     let d = r .before .before in
-    let l = d .before .before in
-    playingStopped _ _ _ _ _ (l .loop .inv) (d .before .loop-test .taken) _ (d .read .ensures) _ _
+    let l = d .before .before .before in
+    playingStopped _ _ _ _ _ (l .loop .inv) (d .before .before .loop-test .taken) _ (d .read .ensures) _ _
     (r .reading .given .1) _ (p .perform .ensures .0) _ (p .perform .ensures .1) (c .if1 .taken)
 
 sub-rest : tie.Need-sub-rest Inv-loop μ-loop
@@ -54,7 +59,7 @@ part-rest-start c = sub-rest c
 
 add-accepted : tie.Need-add-accepted Inv-loop μ-loop
 add-accepted c =
-    let l = c .before .before .before .before .before .before .before .before .before .before .before in
+    let l = c .before .before .before .before .before .before .before .before .before .before .before .before in
     let h = l .loop .inv .few in
     let s = l .before .before .before .pre .short in
     omega arith
@@ -63,15 +68,15 @@ loop-less : tie.Need-loop-less Inv-loop μ-loop
 loop-less c =
     let r = c .before .before .before .before .before .before .before in
     let d = r .before .before in
-    restLess _ _ (d .read .ensures) _ _ (r .reading .given .1) (d .before .loop-test .taken)
+    restLess _ _ (d .read .ensures) _ _ (r .reading .given .1) (d .before .before .loop-test .taken)
 
 loop-again : tie.Need-loop-again Inv-loop μ-loop
 loop-again c =
     let p = c .before .before .before .before in
     let r = p .before .before .before in
     let d = r .before .before in
-    let l = d .before .before in
-    playingOn _ _ _ _ _ (l .loop .inv) (d .before .loop-test .taken) _ (d .read .ensures) _ _
+    let l = d .before .before .before in
+    playingOn _ _ _ _ _ (l .loop .inv) (d .before .before .loop-test .taken) _ (d .read .ensures) _ _
     (r .reading .given .1) _ (p .perform .ensures .0) _ (p .perform .ensures .1) (c .before .if1 .left)
 
 same-length-3 : tie.Need-same-length-3 Inv-loop μ-loop
@@ -87,7 +92,8 @@ play-spec =
     Inv-loop
     μ-loop
     loop-holds
-    (λ c κs. search needs)
+    (λ c. search needs)
+    read-requires
     (λ c. search needs)
     (λ c. search needs)
     (λ c κs. search needs)

@@ -19,31 +19,36 @@ vertexJoinSize c = c .command-size3 .ensures
 
 command-size-requires : tie.Need-command-size-requires
 unfolding isCommand operandBytes
-command-size-requires c κs = refl
+command-size-requires c κs = (refl, refl)
 
 command-size-requires-2 : tie.Need-command-size-requires-2
 unfolding isCommand operandBytes
-command-size-requires-2 c κs = refl
+command-size-requires-2 c κs = (refl, refl)
 
 command-size-requires-3 : tie.Need-command-size-requires-3
 unfolding isCommand operandBytes
-command-size-requires-3 c κs = refl
+command-size-requires-3 c κs = (refl, refl)
 
 pub tape-size-spec : {M : Type 1} → statement M
 tape-size-spec =
     tie.close
     (tie.spec
+    (λ c. search needs)
     command-size-requires
     (λ c. rw (putSize c) (search needs))
     (λ c. rw (putSize c) (search needs))
+    (λ c. search needs)
     command-size-requires-2
     (λ c. rw (edgeJoinSize c) (search needs))
     (λ c. search needs)
     (λ c. rw (edgeJoinSize c) (search needs))
-    (λ c. rw (putSize (c .before), edgeJoinSize c) (search needs))
+    (λ c. rw (putSize (c .before .before), edgeJoinSize c) (search needs))
+    (λ c. search needs)
     command-size-requires-3
     (λ c. rw (vertexJoinSize c) (search needs))
     (λ c. search needs)
     (λ c. rw (vertexJoinSize c) (search needs))
-    (λ c. rw (putSize (c .before .before), edgeJoinSize (c .before), vertexJoinSize c) (search needs))
-    (λ c. rw (putSize (c .before .before), edgeJoinSize (c .before), vertexJoinSize c) (omega arith)))
+    (λ c. let e = c .before .before in
+    rw (putSize (e .before .before), edgeJoinSize e, vertexJoinSize c) (search needs))
+    (λ c. let e = c .before .before in
+    rw (putSize (e .before .before), edgeJoinSize e, vertexJoinSize c) (omega arith)))
