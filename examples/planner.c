@@ -1,5 +1,5 @@
-/* A planning screen in a few lines: it builds a tape for a square of four tabs and a ring that parts it, has the kernel
- * play it, prints the report, and names the refusal where there is one.
+/* A planning screen in a few lines: it builds a tape for a square of four tabs and a ring that parts it, asks what the
+ * tape needs, has the kernel play it, prints the report, and names the refusal where there is one.
  *
  *     rt staticlib c_calls
  *     cc -Iinclude examples/planner.c target/staticlib/libc_calls.a -o target/planner
@@ -51,6 +51,12 @@ static uint32_t number_at(const uint8_t *out, size_t i) {
     return four[0] | (uint32_t)four[1] << 8 | (uint32_t)four[2] << 16 | (uint32_t)four[3] << 24;
 }
 
+static void show_needs(const struct tape *tape) {
+    struct lotskadi_needs needs = lotskadi_tape_needs(tape->bytes, tape->length);
+    printf("%" PRIu32 " commands: a table for %" PRIu32 " tabs, ", needs.commands, needs.capacity);
+    printf("%" PRIu32 " of them at once, %" PRIu32 " words changed\n", needs.peak, needs.words);
+}
+
 static int show(const struct tape *tape) {
     static const char *const names[] = {
         "tabs", "ties", "cells", "gaps", "pieces", "characteristic", "handles", "lifts",
@@ -83,6 +89,7 @@ int main(void) {
     write_tab(&tape, 2);
     write_tab(&tape, 3);
     write_tab(&tape, 4);
+    show_needs(&tape);
     if (show(&tape) != 0) {
         return 1;
     }

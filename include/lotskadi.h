@@ -78,6 +78,15 @@ struct lotskadi_run {
     uint32_t accepted; /* how many commands were accepted */
 };
 
+/* What a tape needs. */
+struct lotskadi_needs {
+    uint8_t number;    /* the refusal, or 0 */
+    uint32_t capacity; /* the greatest tab number that a command names: with fewer tabs the table is too small */
+    uint32_t commands; /* how many commands the tape has */
+    uint32_t peak;     /* the highest of puts less take-outs over all beginnings of the tape, at least 0 */
+    uint32_t words;    /* four for each put, take out, join, cut and crossing */
+};
+
 /* COMMANDS return the refusal, or 0. */
 
 /* A tab appears, a tie and a cell by itself. Refusals: 1 2 3 5. */
@@ -129,6 +138,12 @@ struct lotskadi_answer lotskadi_component_marks(const uint16_t *table, size_t ta
 
 /* Plays a tape up to the first command that is refused; what was accepted before it stays. Refusals: all but 14. */
 struct lotskadi_run lotskadi_play(uint16_t *table, size_t table_words, const uint8_t *tape, size_t tape_bytes);
+
+/* What a tape needs, without playing it. No operand is judged: the capacity may be above 4,096. If a run from an empty
+ * table accepts every command, the capacity is at most that table's, commands is what lotskadi_play returns as
+ * accepted, peak is the most tabs that are present at any moment, and words is how many table words change, counted
+ * command by command and crossing by crossing. Refusals: 1, or the first 15 or 16. */
+struct lotskadi_needs lotskadi_tape_needs(const uint8_t *tape, size_t tape_bytes);
 
 /* The plan's tape into out: tabs rising, then ties, then cells. Played on an empty table of the same size it builds the
  * plan again, and no other plan of that size has it. Bytes behind it stay. Refusals: 1 2 14. */

@@ -33,8 +33,19 @@ pub struct Run {
     pub accepted: u32,
 }
 
+/// What a tape needs: a refusal and zeros, or 0 and the four numbers.
+#[repr(C)]
+#[derive(Clone, Copy, PartialEq, Eq, Debug, Default)]
+pub struct Needs {
+    pub number: u8,
+    pub capacity: u32,
+    pub commands: u32,
+    pub peak: u32,
+    pub words: u32,
+}
+
 mod c {
-    use super::{Answer, Run, Totals};
+    use super::{Answer, Needs, Run, Totals};
 
     extern "C" {
         pub fn lotskadi_put(table: *mut u16, words: usize, tab: u32) -> u8;
@@ -54,6 +65,7 @@ mod c {
         pub fn lotskadi_face_round(table: *const u16, words: usize, tab: u32, out: *mut u16, room: usize) -> Answer;
         pub fn lotskadi_component_marks(table: *const u16, words: usize, out: *mut u16, room: usize) -> Answer;
         pub fn lotskadi_play(table: *mut u16, words: usize, tape: *const u8, bytes: usize) -> Run;
+        pub fn lotskadi_tape_needs(tape: *const u8, bytes: usize) -> Needs;
         pub fn lotskadi_write_tape(table: *const u16, words: usize, out: *mut u8, room: usize) -> Answer;
         pub fn lotskadi_screen(tape: *const u8, bytes: usize, out: *mut u8, room: usize) -> u8;
     }
@@ -130,6 +142,10 @@ pub fn component_marks(table: &[u16], out: &mut [u16]) -> Answer {
 
 pub fn play(table: &mut [u16], tape: &[u8]) -> Run {
     unsafe { c::lotskadi_play(table.as_mut_ptr(), table.len(), tape.as_ptr(), tape.len()) }
+}
+
+pub fn tape_needs(tape: &[u8]) -> Needs {
+    unsafe { c::lotskadi_tape_needs(tape.as_ptr(), tape.len()) }
 }
 
 pub fn write_tape(table: &[u16], out: &mut [u8]) -> Answer {

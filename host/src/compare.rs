@@ -3,6 +3,7 @@
 
 use crate::binding::{self, Answer, Run, Totals};
 use crate::guarded::Guarded;
+use crate::needs;
 use crate::second::{self, Command, Dimension, Part, Plan, Tab};
 use std::fmt::Debug;
 
@@ -14,6 +15,8 @@ pub struct Met {
     pub rings: u64,
     pub longest_ring: usize,
     pub with_handles: u64,
+    /// Runs that went as their tape's needs said.
+    pub foretold: u64,
 }
 
 impl Met {
@@ -215,6 +218,27 @@ impl Lent {
         self.unchanged_or(&before, "a run");
         met.note(run.number);
         run
+    }
+}
+
+/// What a tape needs; and, if a run from an empty table accepts it whole, what that run goes through.
+pub fn tape_needs(met: &mut Met, tape: &[u8], capacity: usize) {
+    let lent = Guarded::new(tape);
+    let answer = binding::tape_needs(&lent);
+    assert_eq!(&lent[..], tape, "a tape is only read");
+    let expected = match needs::needs(tape) {
+        Ok(n) => {
+            binding::Needs { number: 0, capacity: n.capacity, commands: n.commands, peak: n.peak, words: n.words }
+        }
+        Err(number) => binding::Needs { number, ..binding::Needs::default() },
+    };
+    assert_eq!(answer, expected, "needs of {tape:?}");
+    met.note(answer.number);
+    let commands = needs::commands(tape).unwrap_or_default();
+    if let (0, Some(run)) = (answer.number, needs::undergone(capacity, &commands)) {
+        assert!(answer.capacity as usize <= capacity, "the least capacity of {tape:?}");
+        assert_eq!((answer.peak, answer.words), (run.most_tabs, run.changed_words), "a run of {tape:?}");
+        met.foretold += 1;
     }
 }
 

@@ -3,6 +3,7 @@
 pub mod binding;
 pub mod compare;
 pub mod guarded;
+pub mod needs;
 pub mod plain;
 pub mod plans;
 pub mod random;

@@ -1,7 +1,7 @@
 //! The kernel's algorithms once more in plain, safe Rust, written to be fast: what the benchmark measures the kernel
 //! against. Nothing here is proved, and the compiler puts in the checks that the kernel's proofs make needless.
 
-use crate::binding::{Answer, Run, Totals};
+use crate::binding::{Answer, Needs, Run, Totals};
 
 const MAX_WORDS: usize = 16_384;
 const MAX_TAPE: usize = 65_536;
@@ -369,6 +369,45 @@ pub fn play(table: &mut [u16], tape: &[u8]) -> Run {
         0 => run(table, tape),
         number => Run { number, accepted: 0 },
     }
+}
+
+fn greatest(tape: &[u8], numbers: usize, from: usize) -> u16 {
+    let bytes = &tape[from..from + 2 * numbers];
+    bytes.chunks_exact(2).map(|pair| u16::from_le_bytes([pair[0], pair[1]])).max().unwrap_or(0)
+}
+
+pub fn tape_needs(tape: &[u8]) -> Needs {
+    if tape.len() > MAX_TAPE {
+        return Needs { number: 1, ..Needs::default() };
+    }
+    let mut needs = Needs::default();
+    let mut balance = 0i32;
+    let mut highest = 0i32;
+    let mut rest = tape;
+    while !rest.is_empty() {
+        let size = match command_size(rest) {
+            Ok(size) => size,
+            Err(number) => return Needs { number, ..Needs::default() },
+        };
+        let (named, changes) = match rest[0] {
+            1 | 2 => (number_at(rest, 1), 1),
+            7 => (0, 0),
+            8 => (greatest(rest, 2 * rest[1] as usize, 2), u32::from(rest[1])),
+            _ => (number_at(rest, 1).max(number_at(rest, 3)), 1),
+        };
+        match rest[0] {
+            1 => balance += 1,
+            2 => balance -= 1,
+            _ => {}
+        }
+        highest = highest.max(balance);
+        needs.capacity = needs.capacity.max(u32::from(named));
+        needs.commands += 1;
+        needs.words += 4 * changes;
+        rest = &rest[size..];
+    }
+    needs.peak = highest as u32;
+    needs
 }
 
 fn write_joins(

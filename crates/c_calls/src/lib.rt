@@ -10,9 +10,11 @@ ghost use Rattle.tape.specs.Runs.{toldOf};
 ghost use Rattle.kernel.specs.Calls.{callFault, callLeaves, ringCallFault, ringCallLeaves, reportOf, sameAnswer};
 ghost use Rattle.kernel.specs.Calls.{roundAnswer, roundLeaves, marksAnswer, marksLeaves};
 ghost use Rattle.kernel.specs.Tapes.{playOutcome, tapeAnswer, tapeLeaves, screenFault, screenLeaves};
+ghost use Rattle.kernel.specs.TapeNeeds.{needsAnswer};
 ghost use Rattle.c_calls.specs.Narrowing.{narrowed};
 use kernel::Answer;
 use kernel::Dimension;
+use kernel::Needs;
 use kernel::Orbit;
 use kernel::Part;
 use kernel::Run;
@@ -160,6 +162,13 @@ pub extern "C" fn lotskadi_play(table: &mut [u16], tape: &[u8]) -> Run
     ensures table { λ r. ⌜ now (table .exit) ≡ playOutcome (now (table .entry)) (now (tape .entry)) .table ⌝ }
 {
     kernel::play(table, tape)
+}
+
+#[no_mangle]
+pub extern "C" fn lotskadi_tape_needs(tape: &[u8]) -> Needs
+    ensures { λ r. ⌜ r ≡ needsAnswer (now (tape .entry)) ⌝ }
+{
+    kernel::tape_needs(tape)
 }
 
 #[no_mangle]

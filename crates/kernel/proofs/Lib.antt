@@ -9,3 +9,4 @@ pub mod FirstDemand
 pub mod SecondDemand
 pub mod ThirdDemand
 pub mod Demands
+pub mod TapeNeeds

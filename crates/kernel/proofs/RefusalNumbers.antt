@@ -8,7 +8,8 @@ use lib.ListN.{length}
 use Rattle.hypermap.specs.Lists.{all, among}
 use Rattle.hypermap.proofs.Basics.Bools.{byCases}
 use Rattle.hypermap.proofs.Basics.Lists.{allMem}
-use Rattle.table.specs.Refusals.{wrongSize, bentTable, offTheTable, noTab, orElse, unless}
+use Rattle.table.specs.Refusals.{wrongSize, bentTable, offTheTable, noTab, unknownCommand, tornCommand}
+use Rattle.table.specs.Refusals.{orElse, unless}
 use Rattle.table.specs.Layout.{Table}
 use Rattle.table.specs.Commands.{Command, puts, takesOut, joins, cuts, presenceFault, commandFault}
 use Rattle.rings.specs.Rings.{conditionFault, ringFault}
@@ -46,7 +47,7 @@ pub presenceOne :
 unfolding presenceFault
 presenceOne w xs p q = orElseOne (unlessOne _ _ p) (unlessOne _ _ q)
 
-widen : {n : ℕ} {ns : List ℕ} (ms : List ℕ) → all (λ k. among k ms) ns ≡ true → One n ns → One n ms
+pub widen : {n : ℕ} {ns : List ℕ} (ms : List ℕ) → all (λ k. among k ms) ns ≡ true → One n ns → One n ms
 widen {n} {ns} ms p f = record { one = λ z. allMem (λ k. among k ms) ns p n (f .one z) }
 
 restOne : (w : Table) (c : Command) → One (commandFault w c) (commandNumbers c)
@@ -100,7 +101,7 @@ stepOne w (changes c) = widen runNumbers (inRun c) (restOne w c)
 stepOne w reports = none
 stepOne w (cutsRing ws) = widen runNumbers refl (ringRest w ws)
 
-contentsOne : (n : ℕ) (bs : List ℕ) → One (contentsBy n bs .refusal) runNumbers
+pub contentsOne : (n : ℕ) (bs : List ℕ) → One (contentsBy n bs .refusal) (unknownCommand ∷ tornCommand ∷ [])
 unfolding contentsBy readFault among
 contentsOne zero bs = none
 contentsOne (suc n) [] = none
@@ -117,5 +118,6 @@ foldOne w (c ∷ cs) n f =
 pub runOne : (w : Table) (tape : List ℕ) → One (playOutcome w tape .number) runNumbers
 unfolding playOutcome among all
 runOne w tape =
-    byCases (eqb (playFault w tape) 0) (λ t. rw t (foldOne w _ _ (contentsOne (length tape) tape)))
+    byCases (eqb (playFault w tape) 0)
+    (λ t. rw t (foldOne w _ _ (widen runNumbers refl (contentsOne (length tape) tape))))
     (λ t. rw t (widen runNumbers refl (playOne w tape)))

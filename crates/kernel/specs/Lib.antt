@@ -2,3 +2,4 @@ pub mod Calls
 pub mod Tapes
 pub mod Plans
 pub mod Demands
+pub mod TapeNeeds

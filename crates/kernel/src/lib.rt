@@ -7,9 +7,12 @@ ghost use Rattle.kernel.specs.Calls.{callFault, callLeaves, reportOf, sa
 ghost use Rattle.kernel.specs.Calls.{marksAnswer, marksLeaves, lookOf, ringCallFault, ringCallLeaves};
 ghost use Rattle.tape.specs.Runs.{toldOf};
 ghost use Rattle.kernel.specs.Tapes.{playOutcome, tapeAnswer, tapeLeaves, screenFault, screenLeaves};
+ghost use Rattle.kernel.specs.TapeNeeds.{needsAnswer};
 
 mod judge;
 
+pub use needs::Needs;
+use needs::count as count_needs;
 pub use parts::Part;
 use parts::count;
 use parts::flood;
@@ -244,6 +247,17 @@ pub fn play(table: &mut [u16], tape: &[u8]) -> Run
         };
     }
     player::play(table, tape)
+}
+
+// What a tape needs, without playing it: the least capacity at which no dart that it names is off the table, its
+// commands, the peak of puts less take-outs, and the words that it changes where all are accepted.
+pub fn tape_needs(tape: &[u8]) -> Needs
+    ensures { λ r. ⌜ r ≡ needsAnswer (now (tape .entry)) ⌝ }
+{
+    if MAX_TAPE < tape.len() {
+        return count_needs::refused(refusal::WRONG_SIZE);
+    }
+    count_needs::needs_of(tape)
 }
 
 // The canonical tape of the table into out; the count is its bytes.

@@ -29,13 +29,15 @@ doubleDarts m (l ∷ ls) t =
     (andLeft (isDoubleLink m l) (allLinks (isDoubleLink m) ls) t))
     (doubleDarts m ls (andRight (isDoubleLink m l) (allLinks (isDoubleLink m) ls) t))
 
--- a ring leaves a sound table that holds the break
-ringIsCut :
-    (w : Table) (ls : List DoubleLink) → isSound w ≡ true → isRingOf (hypermapOf w) ls ≡ true → IsCut w ls
-ringIsCut w ls s r = cutLaw w ls s (doubleDarts (hypermapOf w) ls (ringTo (hypermapOf w) ls r .0))
+linksAreDarts : (m : Hypermap) (ls : List DoubleLink) → isRingOf m ls ≡ true → areDarts m ls ≡ true
+linksAreDarts m ls r = doubleDarts m ls (ringTo m ls r .0)
 
+pub acceptedDarts : (w : Table) (ws : List ℕ) → ringFault w ws ≡ 0 → areDarts (hypermapOf w) (linksOf ws) ≡ true
+acceptedDarts w ws e = linksAreDarts (hypermapOf w) (linksOf ws) (conditionsLaw w ws .0 e .1)
+
+-- a ring leaves a sound table that holds the break
 pub acceptedCut : (w : Table) (ws : List ℕ) → isSound w ≡ true → ringFault w ws ≡ 0 → IsCut w (linksOf ws)
-acceptedCut w ws s e = ringIsCut w (linksOf ws) s (conditionsLaw w ws .0 e .1)
+acceptedCut w ws s e = cutLaw w (linksOf ws) s (acceptedDarts w ws e)
 
 module _
     (w : Table) (l : DoubleLink) (ls : List DoubleLink) (s : isSound w ≡ true)
@@ -50,7 +52,7 @@ module _
   broken = breakAlong (l ∷ ls) m
 
   isCut : IsCut w (l ∷ ls)
-  isCut = ringIsCut w (l ∷ ls) s ring
+  isCut = cutLaw w (l ∷ ls) s (linksAreDarts (hypermapOf w) (l ∷ ls) ring)
 
   pairs : (isRing m l ls ≡ true) × (pairsDiffer (l ∷ ls) ≡ true)
   unfolding isRingOf

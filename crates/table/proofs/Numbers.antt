@@ -25,7 +25,7 @@ upFromMem zero i x m = memNil x m
 upFromMem (suc n) i x m =
     memCases x i (upFrom (suc i) n) m (λ e. omega arith) (λ k. let r = upFromMem n (suc i) x k in omega arith)
 
-upFromRising : (i n : ℕ) → rising (upFrom i n) ≡ true
+pub upFromRising : (i n : ℕ) → rising (upFrom i n) ≡ true
 unfolding upFrom rising
 upFromRising i zero = refl
 upFromRising i (suc n) =

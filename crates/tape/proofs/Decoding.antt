@@ -1,12 +1,12 @@
 -- What the decoder reads: command bytes and their sizes, and numbers one after the other. Assumes nothing.
 use mathlib.Core.Path.{_≡_, refl, ap, sym, _∙_}
-use mathlib.Core.Bool.{true}
+use mathlib.Core.Bool.{true, false}
 use mathlib.Core.List.{List, [], _∷_, _++_, append-nil}
 use Prim.Native.Nat.{ℕ, zero, suc, _+_, _*_, _≤_, _<_}
 use native.Mathlib.Nat.{zero-add}
 use native.Mathlib.Numerals.{add-one}
 use native.Mathlib.Omega.{arith}
-use lib.Dec.{leb}
+use lib.Dec.{leb, eqb}
 use lib.ListN.{length, getD, take, drop, set, length-set}
 use lib.Seq.{take-all, take-at, drop-length, paste-suc}
 use borrow.Author.Tests.{leb-true, ltb-true}
@@ -41,13 +41,34 @@ unfolding sizeOf
 operandsLie bs b k e s q =
     let h : commandSize (byteOf bs) ≤ length bs = omega arith in rw (sym e ∙ q) at h
 
+-- the bytes of a command other than a ring are its entry's
+pub plainSize : (bs : List ℕ) (b k : ℕ) → b ≡ byteOf bs → b ≡ k → eqb k 8 ≡ false → commandSize k ≡ sizeOf bs
+unfolding sizeOf
+plainSize bs b k e q f = rw (sym e ∙ q, f) (omega arith)
+
+above : (k b : ℕ) → (b ≡ k → ⊥) → k ≤ b → k + 1 ≤ b
+above k b n l = omega arith
+
+-- and what is no other command is a ring
+pub ringSize :
+    (bs : List ℕ) (b n : ℕ) → b ≡ byteOf bs → isCommand b ≡ true → (b ≡ 1 → ⊥) → (b ≡ 2 → ⊥) → (b ≡ 3 → ⊥) →
+    (b ≡ 4 → ⊥) → (b ≡ 5 → ⊥) → (b ≡ 6 → ⊥) → (b ≡ 7 → ⊥) → n ≡ getD bs 1 0 → commandSize 8 + 4 * n ≡ sizeOf bs
+unfolding sizeOf isCommand
+ringSize bs b n e h n₁ n₂ n₃ n₄ n₅ n₆ n₇ f =
+    let some = leb-true 1 b (andLeft (leb 1 b) _ h) in
+    let u = commandBelow b h in
+    let l : 8 ≤ b =
+    above 7 b n₇ (above 6 b n₆ (above 5 b n₅ (above 4 b n₄ (above 3 b n₃ (above 2 b n₂ (above 1 b n₁ some)))))) in
+    let q : b ≡ 8 = omega (arith, l, u) in
+    rw (sym e ∙ q, f) refl
+
 -- NUMBERS one after the other
-numbersLength : (n i : ℕ) (bs : List ℕ) → length (numbersFrom n i bs) ≡ n
+pub numbersLength : (n i : ℕ) (bs : List ℕ) → length (numbersFrom n i bs) ≡ n
 unfolding numbersFrom
 numbersLength zero i bs = refl
 numbersLength (suc n) i bs = ap suc (numbersLength n (i + 2) bs)
 
-numbersAt : (n i : ℕ) (bs : List ℕ) (k : ℕ) → k < n → getD (numbersFrom n i bs) k 0 ≡ numberAt bs (i + 2 * k)
+pub numbersAt : (n i : ℕ) (bs : List ℕ) (k : ℕ) → k < n → getD (numbersFrom n i bs) k 0 ≡ numberAt bs (i + 2 * k)
 unfolding numbersFrom
 numbersAt zero i bs k h = absurd (omega arith)
 numbersAt (suc n) i bs zero h = ap (numberAt bs) (omega arith)

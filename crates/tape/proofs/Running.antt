@@ -1,5 +1,5 @@
 -- A run is a fold of its commands, and every accepted command keeps the table sound. Assumes nothing.
-use mathlib.Core.Path.{_≡_, refl, _∙_}
+use mathlib.Core.Path.{_≡_, refl, ap, _∙_}
 use mathlib.Core.Bool.{true}
 use mathlib.Core.List.{List, [], _∷_}
 use Prim.Native.Nat.{ℕ, suc, _*_, _≤_}
@@ -17,7 +17,7 @@ use Rattle.rings.proofs.Parting.{acceptedCut}
 use Rattle.tape.specs.Steps.{TapeCommand, changes, reports, cutsRing, stepFault, stepOn, stepLeaves}
 use Rattle.tape.specs.Tapes.{contentsOf}
 use Rattle.tape.specs.Runs.{runOver}
-use Rattle.tape.specs.Laws.{IsRun, RunLaw, SoundRunLaw}
+use Rattle.tape.specs.Laws.{AllAccepted, IsRun, RunLaw, SoundRunLaw}
 
 -- A FOLD
 run : (cs : List TapeCommand) (w : Table) (n : ℕ) → IsRun w cs n (runOver w cs n)
@@ -48,6 +48,19 @@ run (c ∷ cs) w n =
 
 pub runLaw : RunLaw
 runLaw w cs n = run cs w n
+
+-- a run that nothing stops has accepted every command, and its tape is read to the end
+pub unstopped :
+    (cs : List TapeCommand) (w : Table) (n : ℕ) → runOver w cs n .number ≡ 0 →
+    AllAccepted w cs × (n ≡ 0) × (runOver w cs n .accepted ≡ length cs)
+unfolding runOver
+unstopped [] w n e = (tt, e, refl)
+unstopped (c ∷ cs) w n e =
+    byCases (eqb (stepFault w c) 0)
+    (λ t.
+    let r = unstopped cs (stepOn w c) n (rw t at e) in
+    rw t ((eqb-true (stepFault w c) 0 t, r .0), r .1, ap suc (r .2)))
+    (λ f. absurd (eqb-false (stepFault w c) 0 f (rw f at e)))
 
 -- SOUND TABLES
 pub stepSound :

@@ -14,7 +14,7 @@ use Rattle.table.specs.Inner.{SoundAt, dimensionOf}
 use Rattle.parts.specs.Marks.{orbitMarks}
 use Rattle.parts.specs.Inner.{Counted}
 use Rattle.tape.specs.Steps.{TapeCommand, changes, reports, cutsRing}
-use Rattle.tape.specs.Tapes.{sizeOf, commandOf, readFault, numbersFrom, tapeBytes}
+use Rattle.tape.specs.Tapes.{commandSize, sizeOf, commandOf, readFault, numbersFrom, tapeBytes}
 use Rattle.tape.specs.Canonical.{orbitJoins, joinsOf}
 use Rattle.tape.specs.Screens.{screenRoom}
 use Rattle.tape.specs.declared.Instruction.{Instruction}
@@ -31,6 +31,15 @@ meaning bs (Join d a b) = changes (joins (dimensionOf d) a b)
 meaning bs (Cut d a b) = changes (cuts (dimensionOf d) a b)
 meaning bs Report = reports
 meaning bs (RingCut n) = cutsRing (numbersFrom (2 * n) 2 bs)
+
+-- the bytes of its command; commands for edges and for vertices are of one size
+abbrev pub instructionSize : Instruction → ℕ
+instructionSize (Put x) = commandSize 1
+instructionSize (TakeOut x) = commandSize 2
+instructionSize (Join d a b) = commandSize 3
+instructionSize (Cut d a b) = commandSize 4
+instructionSize Report = commandSize 7
+instructionSize (RingCut n) = commandSize 8 + 4 * n
 
 -- the number that document 01 gives an answer of the decoder
 abbrev pub numberOf : Reading → ℕ

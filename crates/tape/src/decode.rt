@@ -5,7 +5,7 @@ ghost use Prim.Native.Nat.{_+_, _*_, _≤_, _<_};
 ghost use lib.ListN.{getD, length};
 ghost use Rattle.tape.specs.Tapes.{byteOf, isCommand, numberAt, numbersFrom, sizeOf, commandOf};
 ghost use Rattle.tape.specs.Tapes.{operandBytes};
-ghost use Rattle.tape.specs.Inner.{meaning, numberOf, Reads};
+ghost use Rattle.tape.specs.Inner.{meaning, instructionSize, numberOf, Reads};
 use crate::Instruction;
 use crate::Reading;
 use crate::operands;
@@ -35,7 +35,7 @@ fn number_at(tape: &[u8], i: usize) -> u16
 }
 
 // The same where the tape may end before.
-fn number_or_zero(tape: &[u8], i: usize) -> u16
+pub fn number_or_zero(tape: &[u8], i: usize) -> u16
     requires { ⌜ i ≤ 65536 ⌝ }
     ensures { λ r. ⌜ r ≡ numberAt (now (tape .entry)) i ⌝ }
 {
@@ -57,8 +57,9 @@ fn size_of(tape: &[u8], byte: u8, operand_bytes: &[u8]) -> usize
 
 // The first command. Its operands are numbers here, whatever they are.
 fn instruction_at(tape: &[u8], byte: u8) -> Instruction
-    requires { ⌜ (byte ≡ byteOf (now tape)) × (sizeOf (now tape) ≤ length (now tape)) ⌝ }
+    requires { ⌜ (byte ≡ byteOf (now tape)) × (isCommand byte ≡ true) × (sizeOf (now tape) ≤ length (now tape)) ⌝ }
     ensures { λ r. ⌜ meaning (now (tape .entry)) r ≡ commandOf (now (tape .entry)) ⌝ }
+    ensures size { λ r. ⌜ instructionSize r ≡ sizeOf (now (tape .entry)) ⌝ }
 {
     match byte {
         1 => Instruction::Put(number_at(tape, 1)),
@@ -72,6 +73,24 @@ fn instruction_at(tape: &[u8], byte: u8) -> Instruction
     }
 }
 
+// The bytes of an instruction's command, once more. In each arm of a run the compiler knows them, so that the next
+// command need not wait for the operand table.
+fn instruction_size(instruction: Instruction, operand_bytes: &[u8]) -> usize
+    requires { ⌜ now «operand_bytes» ≡ operandBytes ⌝ }
+    ensures { λ r. ⌜ r ≡ instructionSize instruction ⌝ }
+{
+    match instruction {
+        Instruction::Put(_) => operands::command_size(operand_bytes, operands::PUT),
+        Instruction::TakeOut(_) => operands::command_size(operand_bytes, operands::TAKE_OUT),
+        Instruction::Join(_, _, _) => operands::command_size(operand_bytes, operands::EDGE_JOIN),
+        Instruction::Cut(_, _, _) => operands::command_size(operand_bytes, operands::EDGE_CUT),
+        Instruction::Report => operands::command_size(operand_bytes, operands::REPORT),
+        Instruction::RingCut(n) => {
+            operands::command_size(operand_bytes, operands::RING_CUT) + 4 * operands::wide(n)
+        }
+    }
+}
+
 pub fn read(tape: &[u8], operand_bytes: &[u8]) -> Reading
     requires { ⌜ now «operand_bytes» ≡ operandBytes ⌝ }
     ensures { λ r. ⌜ Reads (now (tape .entry)) r ⌝ }
@@ -80,11 +99,11 @@ pub fn read(tape: &[u8], operand_bytes: &[u8]) -> Reading
     if !operands::is_command(byte) {
         return Reading::Refused(refusal::UNKNOWN_COMMAND);
     }
-    let size = size_of(tape, byte, operand_bytes);
-    if tape.len() < size {
+    if tape.len() < size_of(tape, byte, operand_bytes) {
         return Reading::Refused(refusal::TORN_COMMAND);
     }
-    Reading::Whole(instruction_at(tape, byte), size)
+    let instruction = instruction_at(tape, byte);
+    Reading::Whole(instruction, instruction_size(instruction, operand_bytes))
 }
 
 // The number of a refused reading, 0 of a whole one.

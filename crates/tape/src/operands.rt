@@ -9,9 +9,15 @@ pub const OPERAND_BYTES: [u8; 9] = [0, 2, 2, 4, 4, 4, 4, 0, 1];
 
 pub const PUT: u8 = 1;
 
+pub const TAKE_OUT: u8 = 2;
+
 pub const EDGE_JOIN: u8 = 3;
 
+pub const EDGE_CUT: u8 = 4;
+
 pub const VERTEX_JOIN: u8 = 5;
+
+pub const REPORT: u8 = 7;
 
 pub const RING_CUT: u8 = 8;
 

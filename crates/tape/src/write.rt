@@ -1,15 +1,12 @@
 // The writer of canonical tapes. The marks of both dimensions tell the least dart of each orbit and, counted, how long
 // the tape is, so its room is judged before a byte is written. Linear in the table.
 ghost use mathlib.Core.Path.{_≡_};
-ghost use mathlib.Core.Bool.{true};
 ghost use Prim.Native.Nat.{_+_, _*_, _-_, _≤_};
-ghost use Rattle.hypermap.specs.Hypermap.{edges as edgesIn, vertices as verticesIn};
-ghost use lib.ListN.{length};
 ghost use Rattle.table.specs.Layout.{hypermapOf};
 ghost use Rattle.table.specs.Commands.{puts, joins};
 ghost use Rattle.table.specs.Inner.{dimensionOf};
 ghost use Rattle.parts.specs.Inner.{Counted};
-ghost use Rattle.tape.specs.Tapes.{bytesOf, numberBytes, tapeBytes, commandSize, joinByte};
+ghost use Rattle.tape.specs.Tapes.{bytesOf, numberBytes, tapeBytes, joinByte};
 ghost use Rattle.tape.specs.Canonical.{orbitJoins, joinsOf, putsOf, tapeOf};
 ghost use Rattle.tape.specs.Inner.{HasRoom, Lays, OrbitRoom, JoinsRoom, WriterMarks, writtenOf, writtenLeaves};
 use crate::Written;

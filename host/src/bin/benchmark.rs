@@ -182,6 +182,21 @@ impl Bench {
                 timed(|| assert_eq!(plain::play(&mut table, tape).number, 0))
             },
         ));
+        for tape in &tapes {
+            assert_eq!(binding::tape_needs(tape), plain::tape_needs(tape));
+        }
+        rows.push(self.row(
+            "needs of a tape",
+            &tapes,
+            |tape| {
+                let tape = tape.clone();
+                timed(|| binding::tape_needs(&tape))
+            },
+            |tape| {
+                let tape = tape.clone();
+                timed(|| plain::tape_needs(&tape))
+            },
+        ));
         rows.push(self.row(
             "write a tape",
             &scattered,

@@ -5,7 +5,7 @@
 //! For as long as it is given (20 seconds), with a seed (1): random and structured plans and tapes, whole and damaged.
 //! It ends with how often each refusal was met, and fails where one was never met.
 
-use lotskadi_host::compare::{screen, Lent, Met};
+use lotskadi_host::compare::{screen, tape_needs, Lent, Met};
 use lotskadi_host::plans;
 use lotskadi_host::random::Random;
 use lotskadi_host::second::{self, Command, Dimension, Part, Plan, Tab};
@@ -132,10 +132,12 @@ fn tapes(random: &mut Random, met: &mut Met) {
     damage(random, &mut bytes);
     let mut lent = Lent::of(&Plan::empty(capacity));
     lent.play(met, &bytes);
+    tape_needs(met, &bytes, capacity);
     // what was written plays back
     let written = lent.plan().tape();
     let mut again = Lent::of(&Plan::empty(capacity));
     assert_eq!(again.play(met, &written).number, 0, "a canonical tape");
+    tape_needs(met, &written, capacity);
     assert_eq!(&again.words[..], &lent.words[..], "a canonical tape builds its table");
     if random.once_in(4) {
         let room = match random.below(3) {
@@ -197,6 +199,9 @@ fn full(random: &mut Random, met: &mut Met) {
     Lent::of(&Plan::empty(4)).play(met, &vec![7; second::MAX_TAPE + random.below(2)]);
     screen(met, &vec![7; second::MAX_TAPE + 1], second::SCREEN_ROOM);
     screen(met, &plan.tape(), second::SCREEN_ROOM);
+    // a whole tape of empty rings, and one byte more
+    let empty_rings: Vec<u8> = [8, 0].repeat(second::MAX_TAPE / 2 + random.below(2));
+    tape_needs(met, &empty_rings, 0);
 }
 
 fn main() {
@@ -222,13 +227,14 @@ fn main() {
     }
     println!("seed {seed}, {seconds} s: {} calls in {turns} turns agreed", met.calls);
     println!(
-        "{} rings cut, the longest of {} crossings; {} reports of plans with handles",
-        met.rings, met.longest_ring, met.with_handles
+        "{} rings cut, the longest of {} crossings; {} reports of plans with handles; {} runs as foretold",
+        met.rings, met.longest_ring, met.with_handles, met.foretold
     );
     println!("refusals (0: accepted) and how often each was met:");
     for (number, times) in met.refusals.iter().enumerate() {
         println!("  {number:2}: {times}");
     }
     let all_met = met.refusals.iter().all(|&times| times > 0);
-    assert!(all_met && met.rings > 0 && met.with_handles > 0, "something was never met");
+    let plans_met = met.rings > 0 && met.with_handles > 0 && met.foretold > 0;
+    assert!(all_met && plans_met, "something was never met");
 }

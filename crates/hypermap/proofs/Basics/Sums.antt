@@ -30,7 +30,7 @@ sumBalance v e f g d (x ∷ xs) h =
     let i = sumBalance v e f g d xs (λ y m. h y (memTail y x xs m)) in let j = h x (memHead x xs) in omega arith
 
 -- exactly one passes
-keptNone : (p : ℕ → Bool) (xs : List ℕ) → ((x : ℕ) → Mem x xs → p x ≡ false) → length (keep p xs) ≡ 0
+pub keptNone : (p : ℕ → Bool) (xs : List ℕ) → ((x : ℕ) → Mem x xs → p x ≡ false) → length (keep p xs) ≡ 0
 unfolding keep
 keptNone p [] h = refl
 keptNone p (x ∷ xs) h = rw (h x (memHead x xs)) (keptNone p xs (λ y m. h y (memTail y x xs m)))

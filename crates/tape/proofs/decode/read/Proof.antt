@@ -33,15 +33,25 @@ returns-2 c =
       λ z. omega arith,
     )
 
+instruction-at-requires : tie.Need-instruction-at-requires
+instruction-at-requires c κs =
+    let s = c .before in
+    let k = s .before .before in (
+      k .before .byte-at .ensures,
+      sym (k .is-command .ensures) ∙ not-false _ (s .before .if1 .left),
+      rw (← (s .size-of .ensures)) (c .if2 .left),
+    )
+
 returns-3 : tie.Need-returns-3
 unfolding readFault unless
 returns-3 c =
-    let s = c .before .before in
+    let i = c .before in
+    let s = i .before .before in
     let e = s .size-of .ensures in (
       sym (stageOn _ _ _ _ _ (known (s .before .before)) (s .before .if1 .left)
-          (rw (← e, le-leb _ _ (c .before .if2 .left)))),
-      c .instruction-at .ensures,
-      e,
+          (rw (← e, le-leb _ _ (i .before .if2 .left)))),
+      i .instruction-at .ensures .0,
+      c .instruction-size .ensures ∙ i .instruction-at .ensures .1,
     )
 
 pub read-spec : {M : Type 1} → statement M
@@ -53,5 +63,6 @@ read-spec =
     returns
     size-of-requires
     returns-2
+    instruction-at-requires
     (λ c κs. search needs)
     returns-3)

@@ -1,0 +1,177 @@
+-- The words that a command changes: every accepted put, take-out, join and cut changes exactly four. Two tables differ
+-- in as many words as any list of exactly those places has. Assumes nothing.
+use mathlib.Core.Path.{_≡_, ap, sym, _∙_}
+use mathlib.Core.Logic.{_↔_}
+use mathlib.Core.Bool.{Bool, true, false, not}
+use mathlib.Core.List.{List, [], _∷_}
+use Prim.Native.Nat.{ℕ, _≤_, _<_}
+use native.Mathlib.Omega.{arith}
+use lib.Dec.{leb, eqb, ltb}
+use lib.ListN.{length, getD, List·getD-eq-default}
+use lib.Seq.{getD-set-other}
+use borrow.Author.Tests.{eqb-true, eqb-false, ne-eqb, leb-true, ltb-true, ltb-false, not-true}
+use Rattle.hypermap.specs.Lists.{among, keep, distinct}
+use Rattle.hypermap.specs.Hypermap.{Dimension, edge, vertex, of}
+use Rattle.hypermap.proofs.Basics.Bools.{byCases, clash, andLeft, andRight}
+use Rattle.hypermap.proofs.Basics.Lists.{Mem, memNil, memCases, notAmong, keepMem, memKept, risingKeep, risingDistinct}
+use Rattle.hypermap.proofs.Basics.Lists.{pigeonhole}
+use Rattle.table.specs.Refusals.{offTheTable, tabTaken, tabHeld, together, apart, sameTab, unless}
+use Rattle.table.specs.Layout.{Table, capacity, upFrom, place, wordAt, nextWord, backWord, isNumber, isPresent}
+use Rattle.table.specs.Layout.{isSound}
+use Rattle.table.specs.Commands.{withWord, withAll, swapped, Command, puts, takesOut, joins, cuts, commandOn}
+use Rattle.table.specs.Commands.{commandFault, presenceFault, isAlone, isTogether}
+use Rattle.table.specs.Laws.{fourPlaces, IsSwapped}
+use Rattle.table.proofs.Numbers.{memUpFrom, upFromRising}
+use Rattle.table.proofs.Soundness.{low, high, memPresent, links, empty}
+use Rattle.table.proofs.Writing.{eachWord}
+use Rattle.table.proofs.Faults.{passed, fitting, onePresent, bothPresent}
+use Rattle.table.proofs.Swaps.{swapLaw}
+use Rattle.table.proofs.Commands.{allLength, here}
+use Rattle.table.proofs.Walking.{sameOrbits}
+use Rattle.needs.specs.Laws.{differing}
+
+-- COUNTING: the places where two tables differ are as many as those of any list of exactly these places
+module _ (v w : Table) (size : length w ≡ length v) where
+  abbrev differsAt : ℕ → Bool
+  differsAt i = not (eqb (getD w i 0) (getD v i 0))
+
+  abbrev places : List ℕ
+  places = upFrom 0 (length v)
+
+  -- past the end there is 0 in both
+  within : (i : ℕ) → (getD w i 0 ≡ getD v i 0 → ⊥) → i < length v
+  within i d =
+      byCases (ltb i (length v)) (λ t. ltb-true i (length v) t)
+      (λ f. let l = ltb-false i (length v) f in
+      absurd (d (List·getD-eq-default w 0 (omega arith) ∙ sym (List·getD-eq-default v 0 l))))
+
+  module _
+      (ps : List ℕ) (once : distinct ps ≡ true)
+      (exact : (i : ℕ) → (getD w i 0 ≡ getD v i 0 → ⊥) ↔ (among i ps ≡ true)) where
+    noMore : length (keep differsAt places) ≤ length ps
+    noMore =
+        pigeonhole (keep differsAt places) ps
+        (risingDistinct (keep differsAt places) (risingKeep differsAt places (upFromRising 0 (length v))))
+        (λ i m. exact i .0 (eqb-false _ _ (not-true _ (memKept differsAt places i m .1))))
+
+    noFewer : length ps ≤ length (keep differsAt places)
+    noFewer =
+        pigeonhole ps (keep differsAt places) once
+        (λ i m. let d = exact i .1 m in
+        keepMem differsAt places i (memUpFrom (length v) 0 i (omega arith) (omega (arith, within i d)))
+        (rw (ne-eqb (getD w i 0) (getD v i 0) d)))
+
+    pub differingIs : differing v w ≡ length ps
+    unfolding differing
+    differingIs = omega (arith, noMore, noFewer)
+
+-- A SWAP of two darts
+pub swapWords :
+    (w : Table) (k : Dimension) (a b : ℕ) → IsSwapped w k a b → (a ≡ b → ⊥) → differing w (swapped k a b w) ≡ 4
+swapWords w k a b z d =
+    let f = z .fourWords d in differingIs w (swapped k a b w) (z .size) (fourPlaces w k a b) (f .four) (f .differ)
+
+-- ONE DART'S FOUR WORDS, which are all u, written with another number v
+module _ (w : Table) (x u v : ℕ) (l : 1 ≤ x) (h : x ≤ capacity w) where
+  abbrev own : List ℕ
+  own = place x 0 ∷ place x 1 ∷ place x 2 ∷ place x 3 ∷ []
+
+  ownDistinct : distinct own ≡ true
+  unfolding distinct among
+  ownDistinct =
+      rw (
+        ne-eqb (place x 0) (place x 1) (λ e. absurd (omega arith)),
+        ne-eqb (place x 0) (place x 2) (λ e. absurd (omega arith)),
+        ne-eqb (place x 0) (place x 3) (λ e. absurd (omega arith)),
+        ne-eqb (place x 1) (place x 2) (λ e. absurd (omega arith)),
+        ne-eqb (place x 1) (place x 3) (λ e. absurd (omega arith)),
+        ne-eqb (place x 2) (place x 3) (λ e. absurd (omega arith)),
+      )
+
+  kept : (i : ℕ) → among i own ≡ false → getD (withAll x v w) i 0 ≡ getD w i 0
+  unfolding withAll withWord
+  kept i n =
+      let n₁ = notAmong i _ _ n in
+      let n₂ = notAmong i _ _ (n₁ .1) in
+      let n₃ = notAmong i _ _ (n₂ .1) in
+      let d₀ = n₁ .0 in
+      let d₁ = n₂ .0 in
+      let d₂ = n₃ .0 in
+      let d₃ = notAmong i _ _ (n₃ .1) .0 in
+      simp getD-set-other
+
+  module _
+      (same : (k : Dimension) → (wordAt w x (nextWord k) ≡ u) × (wordAt w x (backWord k) ≡ u)) (d : u ≡ v → ⊥) where
+    wordChanged : (j : ℕ) → j < 4 → getD (withAll x v w) (place x j) 0 ≡ getD w (place x j) 0 → ⊥
+    unfolding wordAt
+    wordChanged j g e = d (sym (eachWord (λ j. wordAt w x j ≡ u) same j g) ∙ sym e ∙ here w x v l h j g)
+
+    changed : (i : ℕ) → Mem i own → getD (withAll x v w) i 0 ≡ getD w i 0 → ⊥
+    changed i m e =
+        memCases i _ _ m
+        (λ c. wordChanged 0 (omega arith) (rw c at e))
+        (λ m₁. memCases i _ _ m₁
+        (λ c. wordChanged 1 (omega arith) (rw c at e))
+        (λ m₂. memCases i _ _ m₂
+        (λ c. wordChanged 2 (omega arith) (rw c at e))
+        (λ m₃. memCases i _ _ m₃
+        (λ c. wordChanged 3 (omega arith) (rw c at e))
+        (λ m₄. memNil i m₄))))
+
+    dartWords : differing w (withAll x v w) ≡ 4
+    dartWords =
+        differingIs w (withAll x v w) (allLength w x v l h) own ownDistinct
+        (λ i. (
+          λ f. byCases (among i own) (λ m. m) (λ n. absurd (f (kept i n))),
+          λ m. changed i m,
+        ))
+
+-- A COMMAND that is accepted
+module _ (w : Table) (s : isSound w ≡ true) where
+  putWords : (x : ℕ) → 1 ≤ x → x ≤ capacity w → isPresent w x ≡ false → differing w (withAll x x w) ≡ 4
+  putWords x l h n = dartWords w x 0 x l h (empty w s x l h n) (λ e. absurd (omega arith))
+
+  takeOutWords : (x : ℕ) → isPresent w x ≡ true → isAlone w x ≡ true → differing w (withAll x 0 w) ≡ 4
+  unfolding isAlone
+  takeOutWords x p t =
+      dartWords w x x 0 (low w x p) (high w x p) same (λ e. absurd (omega (arith, low w x p)))
+    where
+      next : (k : Dimension) → wordAt w x (nextWord k) ≡ x
+      next edge = eqb-true _ _ (andLeft _ (eqb (wordAt w x 2) x) t)
+      next vertex = eqb-true _ _ (andRight (eqb (wordAt w x 0) x) _ t)
+
+      same : (k : Dimension) → (wordAt w x (nextWord k) ≡ x) × (wordAt w x (backWord k) ≡ x)
+      same k = (next k, sym (ap (λ y. wordAt w y (backWord k)) (next k)) ∙ links w s k x p .backNext)
+
+  -- a dart is together with itself
+  apartDiffer :
+      (k : Dimension) (a b : ℕ) → isPresent w a ≡ true → isTogether w k a b ≡ false → a ≡ b → ⊥
+  unfolding isTogether
+  apartDiffer k a b p n e = clash (sameOrbits w (of k) s .reflexive a (memPresent w a ∙ p)) (rw (← e) at n)
+
+  twoWords :
+      (k : Dimension) (a b : ℕ) → presenceFault w (a ∷ b ∷ []) ≡ 0 → (a ≡ b → ⊥) →
+      differing w (swapped k a b w) ≡ 4
+  twoWords k a b f d =
+      let p = bothPresent w a b f in swapWords w k a b (swapLaw w s k a b (p .0) (p .1)) d
+
+pub commandWords :
+    (w : Table) (c : Command) → isSound w ≡ true → commandFault w c ≡ 0 → differing w (commandOn w c) ≡ 4
+commandWords w (puts x) s e =
+    let f = passed (unless (isNumber w x) offTheTable) (unless (not (isPresent w x)) tabTaken) e in
+    let r = fitting (isNumber w x) offTheTable (omega arith) (f .0) in
+    putWords w s x (leb-true 1 x (andLeft (leb 1 x) (leb x (capacity w)) r))
+    (leb-true x (capacity w) (andRight (leb 1 x) (leb x (capacity w)) r))
+    (not-true (isPresent w x) (fitting (not (isPresent w x)) tabTaken (omega arith) (f .1)))
+commandWords w (takesOut x) s e =
+    let f = passed (presenceFault w (x ∷ [])) (unless (isAlone w x) tabHeld) e in
+    takeOutWords w s x (onePresent w x (f .0)) (fitting (isAlone w x) tabHeld (omega arith) (f .1))
+commandWords w (joins k a b) s e =
+    let f = passed (presenceFault w (a ∷ b ∷ [])) (unless (not (isTogether w k a b)) together) e in
+    let n = not-true (isTogether w k a b) (fitting (not (isTogether w k a b)) together (omega arith) (f .1)) in
+    twoWords w s k a b (f .0) (apartDiffer w s k a b (bothPresent w a b (f .0) .0) n)
+commandWords w (cuts k a b) s e =
+    let f = passed (presenceFault w (a ∷ b ∷ [])) _ e in
+    let g = passed (unless (isTogether w k a b) apart) (unless (not (eqb a b)) sameTab) (f .1) in
+    twoWords w s k a b (f .0)
+    (eqb-false a b (not-true (eqb a b) (fitting (not (eqb a b)) sameTab (omega arith) (g .1))))

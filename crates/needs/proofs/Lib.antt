@@ -1,0 +1,7 @@
+pub mod Greatest
+pub mod Capacities
+pub mod Peaks
+pub mod Differences
+pub mod ChangedWords
+pub mod Instructions
+pub mod Tallies
