@@ -8,7 +8,7 @@ use Rattle.hypermap.specs.Hypermap.{edge, vertex, Kind, of, face, orbitOf, comp
 use Rattle.hypermap.specs.Hypermap.{vertices, faces, components, characteristic, genus}
 use Rattle.hypermap.proofs.Basics.Lists.{keepShorter}
 use Rattle.hypermap.proofs.Laws.GenusTheorem.{eulerEquation, genusTheorem}
-use Rattle.table.specs.Layout.{Table, numbers, hypermapOf}
+use Rattle.table.specs.Layout.{Table, hypermapOf}
 use Rattle.table.proofs.Soundness.{soundHypermap, dartsFew}
 use Rattle.parts.specs.Counts.{countsOf}
 use Rattle.parts.specs.Inner.{Counted, Few, HasGenus}

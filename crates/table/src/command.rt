@@ -6,7 +6,7 @@ ghost use mathlib.Core.List.{[], _∷_};
 ghost use Rattle.table.specs.Layout.{isSound};
 ghost use Rattle.table.specs.Commands.{isAlone, presenceFault, commandFault, commandLeaves, puts, takesOut};
 ghost use Rattle.table.specs.Commands.{joins, cuts};
-ghost use Rattle.table.specs.Inner.{InTable, SoundAt, dimensionOf};
+ghost use Rattle.table.specs.Inner.{InTable, dimensionOf};
 use crate::Dimension;
 use crate::change;
 use crate::refusal;

@@ -1,10 +1,9 @@
 // The words of a table, read and written one at a time.
 ghost use mathlib.Core.Path.{_≡_};
 ghost use Prim.Native.Nat.{_≤_, _<_};
-ghost use lib.ListN.{length};
 ghost use Rattle.table.specs.Layout.{place, wordAt, capacity, isNumber, isPresent, wordsPerDart, nextWord};
 ghost use Rattle.table.specs.Layout.{backWord};
-ghost use Rattle.table.specs.Commands.{withWord, withAll};
+ghost use Rattle.table.specs.Commands.{withWord};
 ghost use Rattle.table.specs.Inner.{InTable, dimensionOf};
 use crate::Dimension;
 

@@ -7,7 +7,7 @@ use native.Mathlib.Omega.{arith}
 use lib.ListN.{length, getD, take, drop, set, length-append, length-drop}
 use lib.Seq.{length-take-le, take-length, drop-length, take-all, take-suc, take-at, drop-at, drop-drop}
 use borrow.Author.Tests.{le-leb}
-use Rattle.table.specs.Layout.{Table, numbers}
+use Rattle.table.specs.Layout.{Table}
 use Rattle.parts.specs.Counts.{countsOf}
 use Rattle.parts.specs.declared.Counts.{Counts}
 use Rattle.tape.specs.Canonical.{tapeOf}

@@ -1,6 +1,5 @@
-// Tapes of commands: the operand table, the decoder, one step, the player, the writer and the
-// screen's answer. Inner functions: they may
-// require a sound table.
+// Tapes of commands: the operand table, the decoder, one step, the player, the writer and the screen's answer. Inner
+// functions: they may require a sound table.
 
 pub mod decode;
 pub mod operands;
