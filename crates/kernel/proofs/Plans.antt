@@ -10,7 +10,7 @@ use Rattle.parts.specs.Marks.{markOf, marksOf}
 use Rattle.parts.specs.Counts.{countsOf}
 use Rattle.rings.specs.Rings.{linksOf, isList, pairsTogether, pathCloses, conditionFault, ringFault, cutAlong}
 use Rattle.tape.specs.Tapes.{tapeBytes}
-use Rattle.tape.specs.Canonical.{orbitJoins, joinsOver, putsOf, tapeOf}
+use Rattle.writer.specs.Canonical.{orbitJoins, joinsOver, putsOf, tapeOf}
 use Rattle.kernel.specs.Calls.{sizeFits, tableFault, callFault, callLeaves, ringCallFault, ringCallLeaves}
 use Rattle.kernel.specs.Calls.{reportOf}
 use Rattle.kernel.specs.Tapes.{emptyTable}

@@ -11,9 +11,9 @@ use Rattle.tape.specs.Inner.{Playable}
 use Rattle.tape.specs.declared.Run.{Run}
 use Rattle.tape.proofs.Running.{zerosCounted, soundRunLaw}
 use Rattle.kernel.specs.Calls.{maxCapacity}
-use Rattle.tape.specs.Screens.{screenRoom, screenBytes, outcomeOf}
+use Rattle.writer.specs.Screens.{screenRoom, screenBytes, outcomeOf}
 use Rattle.kernel.specs.Tapes.{maxTape, tapeFault, screenFault, screenLeaves, emptyTable}
-use Rattle.tape.specs.Inner.{ScreenRoom}
+use Rattle.writer.specs.Inner.{ScreenRoom}
 
 -- THE CALL
 module _ (bs o : List ℕ) where

@@ -33,10 +33,10 @@ use Rattle.parts.specs.declared.Part.{Part}
 use Rattle.parts.specs.declared.Part.the-variants.{Edge, Vertex, Face, Component}
 use Rattle.rings.proofs.Conditions.{conditionsLaw}
 use Rattle.rings.proofs.Parting.{acceptedCut}
-use Rattle.tape.specs.Canonical.{tapeOf}
-use Rattle.tape.specs.Laws.{IsBuilt}
-use Rattle.tape.proofs.Sizes.{tapeFits}
-use Rattle.tape.proofs.Building.{buildLaw, onlyTapeLaw}
+use Rattle.writer.specs.Canonical.{tapeOf}
+use Rattle.writer.specs.Laws.{IsBuilt}
+use Rattle.writer.proofs.Sizes.{tapeFits}
+use Rattle.writer.proofs.Building.{buildLaw, onlyTapeLaw}
 use Rattle.kernel.specs.Calls.{tableFault, callFault, callLeaves, questionFault, answer, sameAnswer}
 use Rattle.kernel.specs.Calls.{listFault, listLeaves, listAnswer, roundOf, roundAnswer}
 use Rattle.kernel.specs.Tapes.{playOutcome}

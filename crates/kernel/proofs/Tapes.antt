@@ -13,10 +13,10 @@ use Rattle.table.specs.Refusals.{wrongSize, shortRoom, unless}
 use Rattle.table.specs.Layout.{Table}
 use Rattle.table.proofs.Faults.{refusedFirst, refusedSecond}
 use Rattle.tape.specs.Runs.{Outcome, stopped, runOf, toldOf}
-use Rattle.tape.specs.Canonical.{tapeOf}
-use Rattle.tape.specs.Inner.{writtenOf, writtenLeaves}
+use Rattle.writer.specs.Canonical.{tapeOf}
+use Rattle.writer.specs.Inner.{writtenOf, writtenLeaves}
 use Rattle.tape.specs.declared.Run.{Run}
-use Rattle.tape.specs.declared.Written.{Written}
+use Rattle.writer.specs.declared.Written.{Written}
 use Rattle.kernel.specs.Calls.{tableFault}
 use Rattle.kernel.specs.Tapes.{maxTape, tapeFault, playFault, playOutcome, tapeAnswer, tapeLeaves}
 use Rattle.kernel.specs.declared.Answer.{Answer}

@@ -31,8 +31,9 @@ use Rattle.rings.specs.Rings.{linksOf, isList}
 use Rattle.rings.specs.Laws.{isRingOf}
 use Rattle.tape.specs.Tapes.{contentsOf}
 use Rattle.tape.specs.Runs.{stopped}
-use Rattle.tape.specs.Canonical.{tapeOf}
-use Rattle.tape.specs.Laws.{IsRun, IsBuilt}
+use Rattle.writer.specs.Canonical.{tapeOf}
+use Rattle.tape.specs.Laws.{IsRun}
+use Rattle.writer.specs.Laws.{IsBuilt}
 use Rattle.kernel.specs.Calls.{tableFault, callFault, callLeaves, reportOf, totalsOf, refusedTotals}
 use Rattle.kernel.specs.Calls.{ringCallFault, ringCallLeaves, refusalOf, sameAnswer, roundOf, roundAnswer}
 use Rattle.kernel.specs.Calls.{roundLeaves, marksAnswer, marksLeaves, lookOf}

@@ -12,8 +12,8 @@ use Rattle.table.specs.Commands.{puts, takesOut, joins, cuts}
 use Rattle.table.specs.declared.Orbit.the-variants.{Face}
 use Rattle.parts.specs.Marks.{componentMarks}
 use Rattle.tape.specs.Steps.{TapeCommand, changes, reports, cutsRing}
-use Rattle.tape.specs.Canonical.{tapeOf}
-use Rattle.tape.specs.Screens.{twosComplement}
+use Rattle.writer.specs.Canonical.{tapeOf}
+use Rattle.writer.specs.Screens.{twosComplement}
 use Rattle.kernel.specs.Calls.{callFault, callLeaves, ringCallFault, ringCallLeaves, reportOf, roundOf}
 use Rattle.kernel.specs.Tapes.{emptyTable}
 use Rattle.kernel.specs.declared.Totals.{Totals}

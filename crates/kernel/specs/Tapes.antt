@@ -8,8 +8,8 @@ use lib.ListN.{length, drop, replicate}
 use Rattle.table.specs.Refusals.{wrongSize, shortRoom, orElse, unless}
 use Rattle.table.specs.Layout.{Table, wordsPerDart}
 use Rattle.tape.specs.Runs.{Outcome, stopped, runOf}
-use Rattle.tape.specs.Canonical.{tapeOf}
-use Rattle.tape.specs.Screens.{screenRoom, screenBytes}
+use Rattle.writer.specs.Canonical.{tapeOf}
+use Rattle.writer.specs.Screens.{screenRoom, screenBytes}
 use Rattle.kernel.specs.Calls.{maxCapacity, tableFault, listAnswer, listLeaves}
 use Rattle.kernel.specs.declared.Answer.{Answer}
 

@@ -26,8 +26,8 @@ use table::walk;
 use table::words;
 pub use tape::Run;
 use tape::play as player;
-use tape::screen::write_answer;
-use tape::write;
+use writer::screen::write_answer;
+use writer::write;
 
 // What a report answers: a refusal and zeros, or 0 and the numbers in document 01's order.
 #[repr(C)]

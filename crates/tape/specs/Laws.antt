@@ -2,14 +2,12 @@
 use mathlib.Core.Path.{_≡_}
 use mathlib.Core.Bool.{true}
 use mathlib.Core.List.{List, [], _∷_}
-use Prim.Native.Nat.{ℕ, _+_, _*_, _≤_, _<_}
-use lib.ListN.{length, take, drop, replicate}
-use Rattle.hypermap.specs.Hypermap.{edges, vertices}
-use Rattle.table.specs.Layout.{Table, wordsPerDart, capacity, isSound, hypermapOf}
+use Prim.Native.Nat.{ℕ, _≤_, _<_}
+use lib.ListN.{length, take, drop}
+use Rattle.table.specs.Layout.{Table, isSound}
 use Rattle.tape.specs.Steps.{TapeCommand, stepFault, stepOn}
 use Rattle.tape.specs.Tapes.{commandOf, readFault, restOf, contentsOf, endedBy, after}
 use Rattle.tape.specs.Runs.{Outcome, runOver, runOf}
-use Rattle.tape.specs.Canonical.{commandsOf, tapeOf}
 
 -- the contents of a tape need no fuel: nothing, or a refusal alone, or the first command and the contents of the rest
 pub record IsRead (bs : List ℕ) : Type 0 where
@@ -48,26 +46,3 @@ abbrev pub SoundRunLaw : Type 0
 SoundRunLaw =
     (w : Table) (tape : List ℕ) → isSound w ≡ true →
     (isSound (runOf w tape .table) ≡ true) × (length (runOf w tape .table) ≡ length w)
-
--- the bytes of a canonical tape; with at most 4,096 darts there are at most 53,238 of them
-abbrev pub SizeLaw : Type 0
-SizeLaw =
-    (w : Table) → isSound w ≡ true →
-    length (tapeOf w) + 5 * (edges (hypermapOf w) + vertices (hypermapOf w)) ≡ 13 * length (hypermapOf w .darts)
-
--- a canonical tape, played on an empty table of the same size, is accepted whole and builds the table
-pub record IsBuilt (w : Table) (o : Outcome) : Type 0 where
-  pub whole : o .number ≡ 0
-  pub all : o .accepted ≡ length (commandsOf w)
-  pub same : o .table ≡ w
-
-abbrev pub BuildLaw : Type 0
-BuildLaw =
-    (w : Table) → isSound w ≡ true → length w ≡ wordsPerDart * capacity w →
-    IsBuilt w (runOf (replicate (length w) 0) (tapeOf w))
-
--- unequal sound tables of one size never share a tape
-abbrev pub OnlyTapeLaw : Type 0
-OnlyTapeLaw =
-    (v w : Table) → isSound v ≡ true → isSound w ≡ true → length v ≡ wordsPerDart * capacity v →
-    length v ≡ length w → tapeOf v ≡ tapeOf w → v ≡ w

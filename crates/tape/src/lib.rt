@@ -1,12 +1,10 @@
-// Tapes of commands: the operand table, the decoder, one step, the player, the writer and the screen's answer. Inner
-// functions: they may require a sound table.
+// Tapes of commands: the operand table, the decoder, one step, the player. Inner functions: they may require a sound
+// table.
 
 pub mod decode;
 pub mod operands;
 pub mod play;
-pub mod screen;
 pub mod step;
-pub mod write;
 
 use table::Dimension;
 
@@ -31,10 +29,4 @@ pub enum Reading {
 pub struct Run {
     pub number: u8,
     pub accepted: u32,
-}
-
-// What the writer answers: 0 and the number of bytes, or refusal 14.
-pub struct Written {
-    pub number: u8,
-    pub count: u32,
 }

@@ -1,0 +1,13 @@
+pub mod Laying
+pub mod Passing
+pub mod OrbitJoins
+pub mod Sizes
+pub mod WholeTape
+pub mod Complements
+pub mod Screening
+pub mod ReadBack
+pub mod Putting
+pub mod Cycles
+pub mod JoinSteps
+pub mod Rejoining
+pub mod Building

@@ -1,0 +1,129 @@
+-- The puts of a canonical tape, on a table of zeros: each is accepted, and they leave a sound table with the darts of
+-- the tape's table, each alone. Assumes nothing.
+use mathlib.Core.Path.{_≡_, refl, sym, _∙_}
+use mathlib.Core.Bool.{true, false, _||_}
+use mathlib.Core.List.{List, [], _∷_, map}
+use Prim.Native.Nat.{ℕ, _≤_}
+use native.Mathlib.Omega.{arith}
+use lib.Dec.{eqb}
+use lib.ListN.{length, replicate, length-replicate}
+use borrow.Author.Tests.{eqb-true, eqb-false, le-leb}
+use Rattle.hypermap.specs.Lists.{among, distinct}
+use Rattle.hypermap.specs.Hypermap.{Dimension}
+use Rattle.hypermap.proofs.Basics.Bools.{byCases, clash, boolExt, refuted, orFalse, orRight}
+use Rattle.hypermap.proofs.Basics.Lists.{Mem, memHead, memTail, distinctHead, distinctTail, keepExt, risingKeep}
+use Rattle.hypermap.proofs.Basics.Lists.{risingDistinct}
+use Rattle.table.specs.Refusals.{orElse, unless}
+use Rattle.table.specs.Layout.{Table, capacity, numbers, wordAt, nextWord, isPresent, isSound, hypermapOf}
+use Rattle.table.specs.Commands.{withAll, puts, commandFault}
+use Rattle.table.proofs.Numbers.{numbersRising}
+use Rattle.table.proofs.Soundness.{low, high, firstWord, presentFrom, memPresent}
+use Rattle.table.proofs.Writing.{nextSmall}
+use Rattle.table.proofs.Zeros.{zerosSound, zerosNone}
+use Rattle.table.proofs.Commands.{allLength, here, elsewhere, soundnessLaw}
+use Rattle.tape.specs.Steps.{changes}
+use Rattle.writer.specs.Canonical.{putsOf}
+use Rattle.tape.specs.Laws.{stepsOn, AllAccepted}
+
+-- ONE PUT
+module _ (v : Table) (x : ℕ) (l : 1 ≤ x) (h : x ≤ capacity v) where
+  putAccepted : isPresent v x ≡ false → commandFault v (puts x) ≡ 0
+  unfolding orElse unless
+  putAccepted n = rw (le-leb 1 x l, le-leb x (capacity v) h, n)
+
+  putPresent : (y : ℕ) → isPresent (withAll x x v) y ≡ (eqb y x || isPresent v y)
+  putPresent y =
+      let z = allLength v x x l h in
+      byCases (eqb y x)
+      (λ t. let e = eqb-true y x t in rw (t, e)
+      (presentFrom (withAll x x v) x l (rw z h) (rw (here v x x l h 0 (omega arith)) l)))
+      (λ t. let d = eqb-false y x t in rw t (boolExt _ _
+      (λ p. let g = low (withAll x x v) y p in presentFrom v y g (rw z at (high (withAll x x v) y p))
+      (rw (elsewhere v x x l h 0 (omega arith) y g d) at (firstWord (withAll x x v) y p)))
+      (λ p. let g = low v y p in presentFrom (withAll x x v) y g (rw z (high v y p))
+      (rw (elsewhere v x x l h 0 (omega arith) y g d) (firstWord v y p)))))
+
+-- PUTS of the darts of w, that have left v, with some of them yet to come
+record Puts (w v : Table) (left : List ℕ) : Type 0 where
+  size : length v ≡ length w
+  sound : isSound v ≡ true
+  once : distinct left ≡ true
+  either : (y : ℕ) → isPresent w y ≡ (isPresent v y || among y left)
+  apart : (y : ℕ) → Mem y left → isPresent v y ≡ false
+  alone : (k : Dimension) (y : ℕ) → isPresent v y ≡ true → wordAt v y (nextWord k) ≡ y
+
+module _ (w v : Table) (x : ℕ) (xs : List ℕ) (p : Puts w v (x ∷ xs)) where
+  dartOf : isPresent w x ≡ true
+  dartOf = p .either x ∙ orRight (isPresent v x) _ (memHead x xs)
+
+  dartLow : 1 ≤ x
+  dartLow = low w x dartOf
+
+  dartHigh : x ≤ capacity v
+  dartHigh = rw (p .size) (high w x dartOf)
+
+  dartAccepted : commandFault v (puts x) ≡ 0
+  dartAccepted = putAccepted v x dartLow dartHigh (p .apart x (memHead x xs))
+
+  dartPut : Puts w (withAll x x v) xs
+  unfolding among
+  dartPut =
+      let s = soundnessLaw v (p .sound) (puts x) dartAccepted in
+      record {
+        size = s .1 ∙ p .size;
+        sound = s .0;
+        once = distinctTail x xs (p .once);
+        either = λ y. p .either y ∙ rw (putPresent v x dartLow dartHigh y)
+            (byCases (eqb y x) (λ t. rw t (orRight (isPresent v y) true refl)) (λ t. rw t));
+        apart = λ y m. rw (putPresent v x dartLow dartHigh y, p .apart y (memTail y x xs m))
+            (orFalse _ ∙ refuted _ (λ t. clash (rw (eqb-true y x t) at m) (distinctHead x xs (p .once))));
+        alone = λ k y q. byCases (eqb y x)
+            (λ t. rw (eqb-true y x t) (here v x x dartLow dartHigh (nextWord k) (nextSmall k)))
+            (λ t. let r : isPresent v y ≡ true = rw (putPresent v x dartLow dartHigh y, t) at q in
+            elsewhere v x x dartLow dartHigh (nextWord k) (nextSmall k) y (low v y r) (eqb-false y x t) ∙
+            p .alone k y r);
+      }
+
+putting :
+    (w : Table) (xs : List ℕ) (v : Table) → Puts w v xs →
+    AllAccepted v (map changes (map puts xs)) × Puts w (stepsOn v (map changes (map puts xs))) []
+putting w [] v p = (tt, p)
+putting w (x ∷ xs) v p =
+    let r = putting w xs (withAll x x v) (dartPut w v x xs p) in ((dartAccepted w v x xs p, r .0), r .1)
+
+-- ALL PUTS
+pub record PutAll (w v : Table) : Type 0 where
+  pub size : length v ≡ length w
+  pub sound : isSound v ≡ true
+  pub darts : hypermapOf v .darts ≡ hypermapOf w .darts
+  pub alone : (k : Dimension) (x : ℕ) → isPresent w x ≡ true → wordAt v x (nextWord k) ≡ x
+
+allPut : (w v : Table) → Puts w v [] → PutAll w v
+unfolding among
+allPut w v p =
+    let same : (y : ℕ) → isPresent v y ≡ isPresent w y = λ y. sym (p .either y ∙ orFalse _) in
+    record {
+      size = p .size;
+      sound = p .sound;
+      darts = rw (p .size) (keepExt (isPresent v) (isPresent w) (numbers w) (λ y m. same y));
+      alone = λ k x q. p .alone k x (same x ∙ q);
+    }
+
+zerosPuts : (w : Table) → Puts w (replicate (length w) 0) (hypermapOf w .darts)
+zerosPuts w =
+    let none = zerosNone (length w) in
+    record {
+      size = length-replicate (length w) 0;
+      sound = zerosSound (length w);
+      once = risingDistinct _ (risingKeep (isPresent w) (numbers w) (numbersRising w));
+      either = λ y. sym (rw (none y) (memPresent w y));
+      apart = λ y m. none y;
+      alone = λ k y p. clash p (none y);
+    }
+
+pub putAll :
+    (w : Table) →
+    AllAccepted (replicate (length w) 0) (map changes (putsOf (hypermapOf w))) ×
+    PutAll w (stepsOn (replicate (length w) 0) (map changes (putsOf (hypermapOf w))))
+unfolding putsOf
+putAll w = let r = putting w (hypermapOf w .darts) _ (zerosPuts w) in (r .0, allPut w _ (r .1))

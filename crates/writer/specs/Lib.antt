@@ -1,0 +1,4 @@
+pub mod Canonical
+pub mod Screens
+pub mod Inner
+pub mod Laws

@@ -1,0 +1,42 @@
+-- What the planning screen gets: ten numbers of four bytes, and then the rewritten tape. Document 01, "Tape". Assumes
+-- nothing: these are definitions.
+use mathlib.Core.List.{List, [], _∷_, _++_}
+use Prim.Native.Nat.{ℕ, _-_, _/_, _%_}
+use lib.IntN.{ℤ, pos, negsuc}
+use Rattle.table.specs.Layout.{Table}
+use Rattle.parts.specs.Counts.{countsOf}
+use Rattle.parts.specs.declared.Counts.{Counts}
+use Rattle.tape.specs.Runs.{Outcome}
+use Rattle.writer.specs.Canonical.{tapeOf}
+use Rattle.tape.specs.declared.Run.{Run}
+
+-- bytes that every answer fits: the ten numbers, and the longest tape of 4,096 darts
+abbrev pub screenRoom : ℕ
+screenRoom = 53278
+
+-- a number in four bytes, low byte first; a negative one in two's complement
+abbrev pub fourBytes : ℕ → List ℕ
+fourBytes n = n % 256 ∷ n / 256 % 256 ∷ n / 65536 % 256 ∷ n / 16777216 % 256 ∷ []
+
+abbrev pub twosComplement : ℤ → ℕ
+twosComplement (pos n) = n
+twosComplement (negsuc n) = 4294967295 - n
+
+unfoldable pub numbersBytes : (numbers : List ℕ) → List ℕ
+numbersBytes [] = []
+numbersBytes (n ∷ ns) = fourBytes n ++ numbersBytes ns
+
+-- the refusal or 0, the commands accepted, and the report
+abbrev pub tenNumbers : (number accepted : ℕ) → Counts → List ℕ
+tenNumbers n k c =
+    n ∷ k ∷ c .darts ∷ c .edges ∷ c .vertices ∷ c .faces ∷ c .components ∷ twosComplement (c .characteristic) ∷
+    c .genus ∷ c .lifts ∷ []
+
+-- document 01's order: tabs, ties, cells, gaps; and then the rewritten tape
+unfoldable pub screenBytes : Outcome → List ℕ
+screenBytes o =
+    numbersBytes (tenNumbers (o .number) (o .accepted) (countsOf (o .table))) ++ tapeOf (o .table)
+
+-- an outcome by what a run tells
+abbrev pub outcomeOf : Run → Table → Outcome
+outcomeOf r w = record { number = r .number; accepted = r .accepted; table = w }
