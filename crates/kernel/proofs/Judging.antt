@@ -1,19 +1,19 @@
 -- What a call that was not refused has passed: its table has a size and is sound, and what a report of it gives. A join
 -- or a cut that passes all stages is not refused. Assumes nothing.
 use mathlib.Core.Path.{_≡_, sym, _∙_}
-use mathlib.Core.Bool.{true, false, not}
+use mathlib.Core.Bool.{true}
 use mathlib.Core.List.{[], _∷_}
 use Prim.Native.Nat.{ℕ, _*_, _%_, _≤_}
 use native.Mathlib.Omega.{arith}
 use lib.Dec.{eqb, leb}
 use lib.ListN.{length}
-use borrow.Author.Tests.{eqb-true, eqb-false, eq-eqb, ne-eqb, leb-true, not-true}
-use Rattle.hypermap.specs.Hypermap.{Dimension, componentOf, components, characteristic, genus}
+use borrow.Author.Tests.{eqb-true, eq-eqb, leb-true}
+use Rattle.hypermap.specs.Hypermap.{componentOf, components, characteristic, genus}
 use Rattle.hypermap.proofs.Basics.Bools.{byCases, andLeft, andRight}
-use Rattle.table.specs.Refusals.{wrongSize, bentTable, apart, sameTab, orElse, unless}
+use Rattle.table.specs.Refusals.{wrongSize, bentTable, orElse, unless}
 use Rattle.table.specs.Layout.{Table, wordsPerDart, capacity, isPresent, isSound, hypermapOf}
-use Rattle.table.specs.Commands.{Command, joins, cuts, isTogether, presenceFault, commandFault, commandOn, leaves}
-use Rattle.table.proofs.Faults.{passed, fitting, onePresent, bothPresent, bothFit}
+use Rattle.table.specs.Commands.{Command, presenceFault, commandFault, commandOn, leaves}
+use Rattle.table.proofs.Faults.{passed, fitting, onePresent, bothPresent}
 use Rattle.parts.specs.Counts.{countsOf}
 use Rattle.parts.specs.Inner.{CountedAtBoth}
 use Rattle.parts.specs.Marks.{componentMarks}
@@ -86,43 +86,6 @@ callFits w c e f = rw (e, f)
 pub acceptedLeaves : (w : Table) (c : Command) → callFault w c ≡ 0 → callLeaves w c ≡ commandOn w c
 unfolding callLeaves leaves
 acceptedLeaves w c e = rw (eq-eqb (callFault w c) 0 e)
-
-pub record Joined (w : Table) (k : Dimension) (a b : ℕ) : Type 0 where
-  pub first : isPresent w a ≡ true
-  pub second : isPresent w b ≡ true
-  pub apart : isTogether w k a b ≡ false
-
-pub joinPassed : (w : Table) (k : Dimension) (a b : ℕ) → commandFault w (joins k a b) ≡ 0 → Joined w k a b
-joinPassed w k a b e =
-    let p = passed (presenceFault w (a ∷ b ∷ [])) _ e in
-    let q = bothPresent w a b (p .0) in
-    record { first = q .0; second = q .1; apart = not-true (isTogether w k a b) (fitting _ _ (omega arith) (p .1)) }
-
-pub joinFits : (w : Table) (k : Dimension) (a b : ℕ) → Joined w k a b → commandFault w (joins k a b) ≡ 0
-unfolding orElse unless
-joinFits w k a b j = rw (bothFit w a b (j .first) (j .second), j .apart)
-
-pub record Severed (w : Table) (k : Dimension) (a b : ℕ) : Type 0 where
-  pub first : isPresent w a ≡ true
-  pub second : isPresent w b ≡ true
-  pub together : isTogether w k a b ≡ true
-  pub differ : a ≡ b → ⊥
-
-pub cutPassed : (w : Table) (k : Dimension) (a b : ℕ) → commandFault w (cuts k a b) ≡ 0 → Severed w k a b
-cutPassed w k a b e =
-    let p = passed (presenceFault w (a ∷ b ∷ [])) _ e in
-    let q = bothPresent w a b (p .0) in
-    let r = passed (unless (isTogether w k a b) apart) (unless (not (eqb a b)) sameTab) (p .1) in
-    record {
-      first = q .0;
-      second = q .1;
-      together = fitting (isTogether w k a b) apart (omega arith) (r .0);
-      differ = eqb-false a b (not-true (eqb a b) (fitting (not (eqb a b)) sameTab (omega arith) (r .1)));
-    }
-
-pub cutFits : (w : Table) (k : Dimension) (a b : ℕ) → Severed w k a b → commandFault w (cuts k a b) ≡ 0
-unfolding orElse unless
-cutFits w k a b s = rw (bothFit w a b (s .first) (s .second), s .together, ne-eqb a b (s .differ))
 
 -- as many marks as the capacity
 pub marksMany : (w : Table) (n : ℕ) → n ≡ capacity w → n ≡ length (componentMarks w)

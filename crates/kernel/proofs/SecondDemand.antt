@@ -43,7 +43,8 @@ use Rattle.kernel.specs.Tapes.{playOutcome}
 use Rattle.kernel.specs.Demands.{JoinsBy, CutsBy, RingsBy, Shares, IsRound, SecondDemand}
 use Rattle.kernel.proofs.Answering.{givenAnswer, givenReport}
 use Rattle.kernel.proofs.Judging.{tablePassed, tableFits, sizeStays, wholeWords, reportPassed, callPassed}
-use Rattle.kernel.proofs.Judging.{callFits, acceptedLeaves, joinPassed, joinFits, cutPassed, cutFits}
+use Rattle.table.proofs.Accepting.{joinPassed, joinFits, cutPassed, cutFits}
+use Rattle.kernel.proofs.Judging.{callFits, acceptedLeaves}
 use Rattle.kernel.proofs.Judging.{dartReady, dartsReady}
 use Rattle.kernel.proofs.RingDemand.{ringPassed, ringFits, ringLeaves}
 use Rattle.kernel.proofs.Tapes.{played}

@@ -26,7 +26,8 @@ use Rattle.table.proofs.Swaps.{swapLaw}
 use Rattle.kernel.specs.Calls.{tableFault, reportOf}
 use Rattle.kernel.specs.Demands.{GenusReported, GenusDemand, JoinsFreely, JoinDemand, ThirdDemand}
 use Rattle.kernel.proofs.Judging.{tablePassed, tableFits, sizeStays, reported, reportPassed, callPassed}
-use Rattle.kernel.proofs.Judging.{acceptedLeaves, Joined, joinPassed}
+use Rattle.table.proofs.Accepting.{Joined, joinPassed}
+use Rattle.kernel.proofs.Judging.{acceptedLeaves}
 use Rattle.kernel.proofs.RingDemand.{ringDemand, componentRingDemand}
 
 -- THE GENUS

@@ -10,10 +10,11 @@ use borrow.Author.Tests.{eqb-true, eqb-false, leb-true, le-leb}
 use Rattle.hypermap.specs.Lists.{all}
 use Rattle.hypermap.proofs.Basics.Bools.{byCases, andRight, andTrue}
 use Rattle.hypermap.proofs.Basics.Lists.{Mem, memHead, memTail, memNil, memCases, allMem}
-use Rattle.table.specs.Layout.{Table, capacity, isNumber, isPresent, isSound}
+use Rattle.table.specs.Layout.{Table, capacity, isPresent, isSound}
 use Rattle.table.specs.Commands.{puts, takesOut, joins, cuts}
 use Rattle.table.proofs.Soundness.{high}
-use Rattle.table.proofs.Faults.{passed, fitting, allPresent}
+use Rattle.table.proofs.Faults.{passed, allPresent}
+use Rattle.table.proofs.Accepting.{putPassed}
 use Rattle.rings.proofs.Conditions.{acceptedList}
 use Rattle.tape.specs.Steps.{TapeCommand, changes, reports, cutsRing, stepFault, stepOn}
 use Rattle.tape.specs.Laws.{AllAccepted}
@@ -54,9 +55,7 @@ presentBelow w xs p = greatestBelow xs (capacity w) (λ x m. high w x (allMem (i
 
 namedBelow : (w : Table) (c : TapeCommand) → stepFault w c ≡ 0 → greatest (namedBy c) ≤ capacity w
 unfolding greatest
-namedBelow w (changes (puts x)) e =
-    let r = fitting (isNumber w x) _ (omega arith) (passed _ _ e .0) in
-    omega (arith, largerZero x, leb-true x (capacity w) (andRight (leb 1 x) (leb x (capacity w)) r))
+namedBelow w (changes (puts x)) e = omega (arith, largerZero x, putPassed w x e .high)
 namedBelow w (changes (takesOut x)) e = presentBelow w (x ∷ []) (allPresent w (x ∷ []) (passed _ _ e .0))
 namedBelow w (changes (joins k a b)) e = presentBelow w (a ∷ b ∷ []) (allPresent w (a ∷ b ∷ []) (passed _ _ e .0))
 namedBelow w (changes (cuts k a b)) e = presentBelow w (a ∷ b ∷ []) (allPresent w (a ∷ b ∷ []) (passed _ _ e .0))

@@ -6,25 +6,25 @@ use mathlib.Core.Bool.{Bool, true, false, not}
 use mathlib.Core.List.{List, [], _∷_}
 use Prim.Native.Nat.{ℕ, _≤_, _<_}
 use native.Mathlib.Omega.{arith}
-use lib.Dec.{leb, eqb, ltb}
+use lib.Dec.{eqb, ltb}
 use lib.ListN.{length, getD, List·getD-eq-default}
 use lib.Seq.{getD-set-other}
-use borrow.Author.Tests.{eqb-true, eqb-false, ne-eqb, leb-true, ltb-true, ltb-false, not-true}
+use borrow.Author.Tests.{eqb-false, ne-eqb, ltb-true, ltb-false, not-true}
 use Rattle.hypermap.specs.Lists.{among, keep, distinct}
-use Rattle.hypermap.specs.Hypermap.{Dimension, edge, vertex, of}
-use Rattle.hypermap.proofs.Basics.Bools.{byCases, clash, andLeft, andRight}
+use Rattle.hypermap.specs.Hypermap.{Dimension, of}
+use Rattle.hypermap.proofs.Basics.Bools.{byCases, clash}
 use Rattle.hypermap.proofs.Basics.Lists.{Mem, memNil, memCases, notAmong, keepMem, memKept, risingKeep, risingDistinct}
 use Rattle.hypermap.proofs.Basics.Lists.{pigeonhole}
-use Rattle.table.specs.Refusals.{offTheTable, tabTaken, tabHeld, together, apart, sameTab, unless}
-use Rattle.table.specs.Layout.{Table, capacity, upFrom, place, wordAt, nextWord, backWord, isNumber, isPresent}
+use Rattle.table.specs.Refusals.{apart}
+use Rattle.table.specs.Layout.{Table, capacity, upFrom, place, wordAt, nextWord, backWord, isPresent}
 use Rattle.table.specs.Layout.{isSound}
 use Rattle.table.specs.Commands.{withWord, withAll, swapped, Command, puts, takesOut, joins, cuts, commandOn}
-use Rattle.table.specs.Commands.{commandFault, presenceFault, isAlone, isTogether}
+use Rattle.table.specs.Commands.{commandFault, isTogether}
 use Rattle.table.specs.Laws.{fourPlaces, IsSwapped}
 use Rattle.table.proofs.Numbers.{memUpFrom, upFromRising}
 use Rattle.table.proofs.Soundness.{low, high, memPresent, links, empty}
 use Rattle.table.proofs.Writing.{eachWord}
-use Rattle.table.proofs.Faults.{passed, fitting, onePresent, bothPresent}
+use Rattle.table.proofs.Accepting.{Free, putPassed, Alone, takeOutPassed, Joined, joinPassed, cutPassed}
 use Rattle.table.proofs.Swaps.{swapLaw}
 use Rattle.table.proofs.Commands.{allLength, here}
 use Rattle.table.proofs.Walking.{sameOrbits}
@@ -128,50 +128,34 @@ module _ (w : Table) (x u v : ℕ) (l : 1 ≤ x) (h : x ≤ capacity w) where
 
 -- A COMMAND that is accepted
 module _ (w : Table) (s : isSound w ≡ true) where
-  putWords : (x : ℕ) → 1 ≤ x → x ≤ capacity w → isPresent w x ≡ false → differing w (withAll x x w) ≡ 4
-  putWords x l h n = dartWords w x 0 x l h (empty w s x l h n) (λ e. absurd (omega arith))
+  putWords : (x : ℕ) → Free w x → differing w (withAll x x w) ≡ 4
+  putWords x f =
+      let l = f .low in
+      dartWords w x 0 x l (f .high) (empty w s x l (f .high) (f .absent)) (λ e. absurd (omega arith))
 
-  takeOutWords : (x : ℕ) → isPresent w x ≡ true → isAlone w x ≡ true → differing w (withAll x 0 w) ≡ 4
-  unfolding isAlone
-  takeOutWords x p t =
-      dartWords w x x 0 (low w x p) (high w x p) same (λ e. absurd (omega (arith, low w x p)))
-    where
-      next : (k : Dimension) → wordAt w x (nextWord k) ≡ x
-      next edge = eqb-true _ _ (andLeft _ (eqb (wordAt w x 2) x) t)
-      next vertex = eqb-true _ _ (andRight (eqb (wordAt w x 0) x) _ t)
-
-      same : (k : Dimension) → (wordAt w x (nextWord k) ≡ x) × (wordAt w x (backWord k) ≡ x)
-      same k = (next k, sym (ap (λ y. wordAt w y (backWord k)) (next k)) ∙ links w s k x p .backNext)
-
-  -- a dart is together with itself
-  apartDiffer :
-      (k : Dimension) (a b : ℕ) → isPresent w a ≡ true → isTogether w k a b ≡ false → a ≡ b → ⊥
-  unfolding isTogether
-  apartDiffer k a b p n e = clash (sameOrbits w (of k) s .reflexive a (memPresent w a ∙ p)) (rw (← e) at n)
+  takeOutWords : (x : ℕ) → Alone w x → differing w (withAll x 0 w) ≡ 4
+  takeOutWords x f =
+      let p = f .present in
+      dartWords w x x 0 (low w x p) (high w x p)
+      (λ k. (f .home k, sym (ap (λ y. wordAt w y (backWord k)) (f .home k)) ∙ links w s k x p .backNext))
+      (λ e. absurd (omega (arith, low w x p)))
 
   twoWords :
-      (k : Dimension) (a b : ℕ) → presenceFault w (a ∷ b ∷ []) ≡ 0 → (a ≡ b → ⊥) →
+      (k : Dimension) (a b : ℕ) → isPresent w a ≡ true → isPresent w b ≡ true → (a ≡ b → ⊥) →
       differing w (swapped k a b w) ≡ 4
-  twoWords k a b f d =
-      let p = bothPresent w a b f in swapWords w k a b (swapLaw w s k a b (p .0) (p .1)) d
+  twoWords k a b p q d = swapWords w k a b (swapLaw w s k a b p q) d
+
+  -- a dart is together with itself
+  joinDiffer : (k : Dimension) (a b : ℕ) → Joined w k a b → a ≡ b → ⊥
+  unfolding isTogether
+  joinDiffer k a b j e =
+      clash (sameOrbits w (of k) s .reflexive a (memPresent w a ∙ j .first)) (rw (← e) at (j .apart))
 
 pub commandWords :
     (w : Table) (c : Command) → isSound w ≡ true → commandFault w c ≡ 0 → differing w (commandOn w c) ≡ 4
-commandWords w (puts x) s e =
-    let f = passed (unless (isNumber w x) offTheTable) (unless (not (isPresent w x)) tabTaken) e in
-    let r = fitting (isNumber w x) offTheTable (omega arith) (f .0) in
-    putWords w s x (leb-true 1 x (andLeft (leb 1 x) (leb x (capacity w)) r))
-    (leb-true x (capacity w) (andRight (leb 1 x) (leb x (capacity w)) r))
-    (not-true (isPresent w x) (fitting (not (isPresent w x)) tabTaken (omega arith) (f .1)))
-commandWords w (takesOut x) s e =
-    let f = passed (presenceFault w (x ∷ [])) (unless (isAlone w x) tabHeld) e in
-    takeOutWords w s x (onePresent w x (f .0)) (fitting (isAlone w x) tabHeld (omega arith) (f .1))
+commandWords w (puts x) s e = putWords w s x (putPassed w x e)
+commandWords w (takesOut x) s e = takeOutWords w s x (takeOutPassed w x e)
 commandWords w (joins k a b) s e =
-    let f = passed (presenceFault w (a ∷ b ∷ [])) (unless (not (isTogether w k a b)) together) e in
-    let n = not-true (isTogether w k a b) (fitting (not (isTogether w k a b)) together (omega arith) (f .1)) in
-    twoWords w s k a b (f .0) (apartDiffer w s k a b (bothPresent w a b (f .0) .0) n)
+    let j = joinPassed w k a b e in twoWords w s k a b (j .first) (j .second) (joinDiffer w s k a b j)
 commandWords w (cuts k a b) s e =
-    let f = passed (presenceFault w (a ∷ b ∷ [])) _ e in
-    let g = passed (unless (isTogether w k a b) apart) (unless (not (eqb a b)) sameTab) (f .1) in
-    twoWords w s k a b (f .0)
-    (eqb-false a b (not-true (eqb a b) (fitting (not (eqb a b)) sameTab (omega arith) (g .1))))
+    let c = cutPassed w k a b e in twoWords w s k a b (c .first) (c .second) (c .differ)

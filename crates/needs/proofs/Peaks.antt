@@ -7,22 +7,22 @@ use Prim.Native.Nat.{ℕ, zero, suc, _+_, _-_, _≤_}
 use native.Mathlib.Omega.{arith}
 use lib.Dec.{leb, eqb}
 use lib.ListN.{length, replicate, take}
-use borrow.Author.Tests.{eqb-true, eqb-false, leb-true, leb-false, not-true}
+use borrow.Author.Tests.{eqb-true, eqb-false, leb-true, leb-false}
 use Rattle.hypermap.specs.Lists.{distinct}
 use Rattle.hypermap.specs.Hypermap.{Dimension}
-use Rattle.hypermap.proofs.Basics.Bools.{byCases, clash, boolExt, refuted, andLeft, andRight}
+use Rattle.hypermap.proofs.Basics.Bools.{byCases, clash, refuted}
 use Rattle.hypermap.proofs.Basics.Lists.{memHead, memTail, memCases, distinctCons, risingKeep, risingDistinct}
 use Rattle.hypermap.proofs.Basics.Lists.{pigeonhole}
 use Rattle.hypermap.proofs.Basics.Sums.{keptNone}
 use Rattle.hypermap.proofs.Laws.Jordan.{breakDarts}
-use Rattle.table.specs.Layout.{Table, capacity, numbers, isNumber, isPresent, isSound, hypermapOf}
-use Rattle.table.specs.Commands.{withAll, swapped, puts, takesOut, joins, cuts, presenceFault}
+use Rattle.table.specs.Layout.{Table, numbers, isPresent, isSound, hypermapOf}
+use Rattle.table.specs.Commands.{withAll, swapped, puts, takesOut, joins, cuts}
 use Rattle.table.proofs.Numbers.{numbersRising}
 use Rattle.table.proofs.Zeros.{zerosNone}
 use Rattle.table.proofs.Soundness.{low, high, firstWord, presentFrom, memPresent}
-use Rattle.table.proofs.Faults.{passed, fitting, onePresent, bothPresent}
+use Rattle.table.proofs.Accepting.{putPassed, takeOutPassed, joinPassed, cutPassed}
 use Rattle.table.proofs.Swaps.{swapLaw}
-use Rattle.table.proofs.Commands.{allLength, here, elsewhere}
+use Rattle.table.proofs.Commands.{allLength, here, presentElsewhere}
 use Rattle.rings.specs.Rings.{linksOf}
 use Rattle.rings.proofs.Parting.{acceptedCut}
 use Rattle.tape.specs.Steps.{TapeCommand, changes, reports, cutsRing, stepFault, stepOn}
@@ -91,47 +91,32 @@ module _
   oneMore : dartsIn w ≡ suc (dartsIn v)
   oneMore = let l = noFewer in let h = noMore in omega arith
 
--- THE WORDS OF ONE DART
-module _ (w : Table) (x n : ℕ) (l : 1 ≤ x) (h : x ≤ capacity w) where
-  othersSame : (y : ℕ) → (y ≡ x → ⊥) → isPresent (withAll x n w) y ≡ isPresent w y
-  othersSame y d =
-      let z = allLength w x n l h in
-      boolExt _ _
-      (λ p. let g = low (withAll x n w) y p in presentFrom w y g (rw z at (high (withAll x n w) y p))
-      (rw (elsewhere w x n l h 0 (omega arith) y g d) at (firstWord (withAll x n w) y p)))
-      (λ p. let g = low w y p in presentFrom (withAll x n w) y g (rw z (high w y p))
-      (rw (elsewhere w x n l h 0 (omega arith) y g d) (firstWord w y p)))
-
 -- THE DARTS AFTER A COMMAND
 putDarts :
-    (w : Table) (x : ℕ) → stepFault w (changes (puts x)) ≡ 0 →
-    dartsIn (withAll x x w) ≡ suc (dartsIn w)
+    (w : Table) (x : ℕ) → stepFault w (changes (puts x)) ≡ 0 → dartsIn (withAll x x w) ≡ suc (dartsIn w)
 putDarts w x e =
-    let f = passed _ _ e in
-    let r = fitting (isNumber w x) _ (omega arith) (f .0) in
-    let l = leb-true 1 x (andLeft (leb 1 x) (leb x (capacity w)) r) in
-    let h = leb-true x (capacity w) (andRight (leb 1 x) (leb x (capacity w)) r) in
-    oneMore w (withAll x x w) x (not-true _ (fitting _ _ (omega arith) (f .1)))
+    let f = putPassed w x e in
+    let l = f .low in
+    let h = f .high in
+    oneMore w (withAll x x w) x (f .absent)
     (presentFrom (withAll x x w) x l (rw (allLength w x x l h) h) (rw (here w x x l h 0 (omega arith)) l))
-    (othersSame w x x l h)
+    (presentElsewhere w x x l h)
 
 takeOutDarts :
-    (w : Table) (x : ℕ) → stepFault w (changes (takesOut x)) ≡ 0 →
-    dartsIn w ≡ suc (dartsIn (withAll x 0 w))
+    (w : Table) (x : ℕ) → stepFault w (changes (takesOut x)) ≡ 0 → dartsIn w ≡ suc (dartsIn (withAll x 0 w))
 takeOutDarts w x e =
-    let p = onePresent w x (passed _ _ e .0) in
+    let p = takeOutPassed w x e .present in
     let l = low w x p in
     let h = high w x p in
     oneMore (withAll x 0 w) w x
     (refuted (isPresent (withAll x 0 w) x) (λ t.
     omega (arith, firstWord (withAll x 0 w) x t, here w x 0 l h 0 (omega arith))))
-    p (λ y d. sym (othersSame w x 0 l h y d))
+    p (λ y d. sym (presentElsewhere w x 0 l h y d))
 
 swapDarts :
-    (w : Table) → isSound w ≡ true → (k : Dimension) (a b : ℕ) → presenceFault w (a ∷ b ∷ []) ≡ 0 →
+    (w : Table) → isSound w ≡ true → (k : Dimension) (a b : ℕ) → isPresent w a ≡ true → isPresent w b ≡ true →
     dartsIn (swapped k a b w) ≡ dartsIn w
-swapDarts w s k a b e =
-    let p = bothPresent w a b e in ap length (swapLaw w s k a b (p .0) (p .1) .holds .darts)
+swapDarts w s k a b p q = ap length (swapLaw w s k a b p q .holds .darts)
 
 ringDarts :
     (w : Table) (ws : List ℕ) → isSound w ≡ true → stepFault w (cutsRing ws) ≡ 0 →
@@ -147,9 +132,11 @@ step w (changes (puts x)) p s e =
 step w (changes (takesOut x)) p s e =
     omega (arith, largerIs (dartsIn w) (dartsIn (withAll x 0 w) + p), takeOutDarts w x e)
 step w (changes (joins k a b)) p s e =
-    omega (arith, largerIs (dartsIn w) (dartsIn (swapped k a b w) + p), swapDarts w s k a b (passed _ _ e .0))
+    let j = joinPassed w k a b e in
+    omega (arith, largerIs (dartsIn w) (dartsIn (swapped k a b w) + p), swapDarts w s k a b (j .first) (j .second))
 step w (changes (cuts k a b)) p s e =
-    omega (arith, largerIs (dartsIn w) (dartsIn (swapped k a b w) + p), swapDarts w s k a b (passed _ _ e .0))
+    let j = cutPassed w k a b e in
+    omega (arith, largerIs (dartsIn w) (dartsIn (swapped k a b w) + p), swapDarts w s k a b (j .first) (j .second))
 step w reports p s e = omega (arith, largerIs (dartsIn w) (dartsIn w + p))
 step w (cutsRing ws) p s e =
     omega (arith, largerIs (dartsIn w) (dartsIn (stepOn w (cutsRing ws)) + p), ringDarts w ws s e)

@@ -32,7 +32,7 @@ pub addedBy :
 addedBy t c g m p b n eg em ep eb en = rw (em, eg, ep, eb, en)
 
 -- ALL COMMANDS: what is counted of cs behind t, in closed form
-abbrev pub counted : Tally → List TapeCommand → Needs
+abbrev counted : Tally → List TapeCommand → Needs
 counted t cs = record {
   number = 0;
   capacity = larger (t .capacity) (greatest (namedIn cs));
@@ -42,22 +42,22 @@ counted t cs = record {
 }
 
 -- no command is both, and none puts more than one dart
-plain :
+atMostOne :
     (c : TapeCommand) → (putsBy c ≤ 1) × (takeOutsBy c ≤ 1) × ((putsBy c ≡ 0) ⊎ (takeOutsBy c ≡ 0))
-plain (changes (puts x)) = (omega arith, omega arith, inr refl)
-plain (changes (takesOut x)) = (omega arith, omega arith, inl refl)
-plain (changes (joins k a b)) = (omega arith, omega arith, inl refl)
-plain (changes (cuts k a b)) = (omega arith, omega arith, inl refl)
-plain reports = (omega arith, omega arith, inl refl)
-plain (cutsRing ws) = (omega arith, omega arith, inl refl)
+atMostOne (changes (puts x)) = (omega arith, omega arith, inr refl)
+atMostOne (changes (takesOut x)) = (omega arith, omega arith, inl refl)
+atMostOne (changes (joins k a b)) = (omega arith, omega arith, inl refl)
+atMostOne (changes (cuts k a b)) = (omega arith, omega arith, inl refl)
+atMostOne reports = (omega arith, omega arith, inl refl)
+atMostOne (cutsRing ws) = (omega arith, omega arith, inl refl)
 
 -- what is left of the rest's peak above the peak so far
 peakOn :
     (p b q : ℕ) (c : TapeCommand) →
     p + (putsBy c + q - takeOutsBy c - b) ≡ peakAfter p b c + (q - belowAfter b c)
-peakOn p b q c = let h = plain c in ⊎-elim (λ e. omega (arith, h .1)) (λ e. omega (arith, h .0)) (h .2)
+peakOn p b q c = let h = atMostOne c in ⊎-elim (λ e. omega (arith, h .1)) (λ e. omega (arith, h .0)) (h .2)
 
-pub countedOn : (t : Tally) (c : TapeCommand) (cs : List TapeCommand) → counted t (c ∷ cs) ≡ counted (added t c) cs
+countedOn : (t : Tally) (c : TapeCommand) (cs : List TapeCommand) → counted t (c ∷ cs) ≡ counted (added t c) cs
 unfolding namedIn peakOf total
 countedOn t c cs =
     let g : larger (t .capacity) (greatest (namedBy c ++ namedIn cs)) ≡
@@ -70,10 +70,10 @@ countedOn t c cs =
     omega arith in
     rw (g, n, p, m)
 
-abbrev pub nothing : Tally
+abbrev nothing : Tally
 nothing = record { capacity = 0; commands = 0; peak = 0; below = 0; changes = 0 }
 
-pub countedFirst : (cs : List TapeCommand) → needsOf cs ≡ counted nothing cs
+countedFirst : (cs : List TapeCommand) → needsOf cs ≡ counted nothing cs
 countedFirst cs =
     let g = zeroLarger (greatest (namedIn cs)) in
     let n : 0 + length cs ≡ length cs = omega arith in
@@ -151,7 +151,7 @@ module _ (tape rest : List ℕ) (t : Tally) (h : Counting tape rest t) where
         let read = readingLaw rest .read some (w .0) in
         let x = restShorter rest some in
         let k : u .commands ≡ t .commands + 1 = ap (λ s. s .commands) g in
-        let o = plain (commandOf rest) in
+        let o = atMostOne (commandOf rest) in
         let p : u .peak ≤ t .peak + 1 = rw g (omega (arith, o .0)) in
         let d : u .below ≤ t .below + 1 = rw g (omega (arith, o .1)) in
         rw (part-to-end, w .2)

@@ -10,6 +10,7 @@ pub mod Writing
 pub mod Faults
 pub mod Filling
 pub mod Swaps
+pub mod Accepting
 pub mod Commands
 pub mod OnlyTables
 pub mod Zeros

@@ -14,11 +14,10 @@ use Rattle.hypermap.proofs.Permutations.Reaching.{ride}
 use Rattle.hypermap.proofs.Permutations.Splicing.{swapFirst, swapSecond, swapElse, swapCases}
 use Rattle.hypermap.proofs.Laws.Orbits.{orbitLaw}
 use Rattle.hypermap.proofs.Laws.Changes.{changeLaw}
-use Rattle.table.specs.Refusals.{orElse, unless}
 use Rattle.table.specs.Layout.{Table, wordAt, nextWord, isPresent, hypermapOf, isSound}
 use Rattle.table.specs.Commands.{joins, swapped, isTogether, commandFault}
 use Rattle.table.proofs.Soundness.{memPresent, soundHypermap}
-use Rattle.table.proofs.Faults.{bothFit}
+use Rattle.table.proofs.Accepting.{joinFits}
 use Rattle.table.proofs.Swaps.{swapLaw}
 use Rattle.tape.specs.Steps.{TapeCommand, changes, stepOn}
 use Rattle.tape.specs.Laws.{stepsOn, AllAccepted}
@@ -50,8 +49,7 @@ module _
       d (ride f (λ z. z ≡ t) (λ z e. ap f e ∙ alone) t a (o .0 t (memPresent u t ∙ pt) .members a .0 r) refl))
 
   joinAccepted : commandFault u (joins k a t) ≡ 0
-  unfolding orElse unless
-  joinAccepted = rw (bothFit u a t pa pt, notTogether)
+  joinAccepted = joinFits u k a t (record { first = pa; second = pt; apart = notTogether })
 
 -- u has the darts of w, g as their successor in dimension k, and the successors of v in the other
 pub record Turned (w v u : Table) (k : Dimension) (g : ℕ → ℕ) : Type 0 where

@@ -7,41 +7,33 @@ use Prim.Native.Nat.{ℕ, _≤_}
 use native.Mathlib.Omega.{arith}
 use lib.Dec.{eqb}
 use lib.ListN.{length, replicate, length-replicate}
-use borrow.Author.Tests.{eqb-true, eqb-false, le-leb}
+use borrow.Author.Tests.{eqb-true, eqb-false}
 use Rattle.hypermap.specs.Lists.{among, distinct}
 use Rattle.hypermap.specs.Hypermap.{Dimension}
-use Rattle.hypermap.proofs.Basics.Bools.{byCases, clash, boolExt, refuted, orFalse, orRight}
+use Rattle.hypermap.proofs.Basics.Bools.{byCases, clash, refuted, orFalse, orRight}
 use Rattle.hypermap.proofs.Basics.Lists.{Mem, memHead, memTail, distinctHead, distinctTail, keepExt, risingKeep}
 use Rattle.hypermap.proofs.Basics.Lists.{risingDistinct}
-use Rattle.table.specs.Refusals.{orElse, unless}
 use Rattle.table.specs.Layout.{Table, capacity, numbers, wordAt, nextWord, isPresent, isSound, hypermapOf}
 use Rattle.table.specs.Commands.{withAll, puts, commandFault}
 use Rattle.table.proofs.Numbers.{numbersRising}
-use Rattle.table.proofs.Soundness.{low, high, firstWord, presentFrom, memPresent}
+use Rattle.table.proofs.Soundness.{low, high, presentFrom, memPresent}
 use Rattle.table.proofs.Writing.{nextSmall}
 use Rattle.table.proofs.Zeros.{zerosSound, zerosNone}
-use Rattle.table.proofs.Commands.{allLength, here, elsewhere, soundnessLaw}
+use Rattle.table.proofs.Accepting.{putFits}
+use Rattle.table.proofs.Commands.{allLength, here, elsewhere, soundnessLaw, presentElsewhere}
 use Rattle.tape.specs.Steps.{changes}
 use Rattle.writer.specs.Canonical.{putsOf}
 use Rattle.tape.specs.Laws.{stepsOn, AllAccepted}
 
 -- ONE PUT
 module _ (v : Table) (x : ℕ) (l : 1 ≤ x) (h : x ≤ capacity v) where
-  putAccepted : isPresent v x ≡ false → commandFault v (puts x) ≡ 0
-  unfolding orElse unless
-  putAccepted n = rw (le-leb 1 x l, le-leb x (capacity v) h, n)
-
   putPresent : (y : ℕ) → isPresent (withAll x x v) y ≡ (eqb y x || isPresent v y)
   putPresent y =
       let z = allLength v x x l h in
       byCases (eqb y x)
       (λ t. let e = eqb-true y x t in rw (t, e)
       (presentFrom (withAll x x v) x l (rw z h) (rw (here v x x l h 0 (omega arith)) l)))
-      (λ t. let d = eqb-false y x t in rw t (boolExt _ _
-      (λ p. let g = low (withAll x x v) y p in presentFrom v y g (rw z at (high (withAll x x v) y p))
-      (rw (elsewhere v x x l h 0 (omega arith) y g d) at (firstWord (withAll x x v) y p)))
-      (λ p. let g = low v y p in presentFrom (withAll x x v) y g (rw z (high v y p))
-      (rw (elsewhere v x x l h 0 (omega arith) y g d) (firstWord v y p)))))
+      (λ t. rw t (presentElsewhere v x x l h y (eqb-false y x t)))
 
 -- PUTS of the darts of w, that have left v, with some of them yet to come
 record Puts (w v : Table) (left : List ℕ) : Type 0 where
@@ -63,7 +55,7 @@ module _ (w v : Table) (x : ℕ) (xs : List ℕ) (p : Puts w v (x ∷ xs)) where
   dartHigh = rw (p .size) (high w x dartOf)
 
   dartAccepted : commandFault v (puts x) ≡ 0
-  dartAccepted = putAccepted v x dartLow dartHigh (p .apart x (memHead x xs))
+  dartAccepted = putFits v x (record { low = dartLow; high = dartHigh; absent = p .apart x (memHead x xs) })
 
   dartPut : Puts w (withAll x x v) xs
   unfolding among

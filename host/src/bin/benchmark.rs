@@ -48,10 +48,11 @@ fn measure<I>(
     (median(&mut ours), median(&mut theirs))
 }
 
-/// Microseconds of one call; its input was copied just before, and so is in the cache, whatever its size.
-fn timed<R>(call: impl FnOnce() -> R) -> f64 {
+/// Microseconds of one call on a copy of its input, made just before, and so in the cache, whatever its size.
+fn timed<I: Clone, R>(input: &I, call: impl FnOnce(&mut I) -> R) -> f64 {
+    let mut copy = input.clone();
     let start = Instant::now();
-    black_box(call());
+    black_box(call(&mut copy));
     start.elapsed().as_secs_f64() * 1e6
 }
 
@@ -141,14 +142,8 @@ impl Bench {
         let soundness = self.row(
             "soundness, by a refused put",
             &scattered.iter().map(refused).collect::<Vec<_>>(),
-            |(words, i)| {
-                let mut table = words.clone();
-                timed(|| assert_eq!(binding::put(&mut table, *i as u32 + 1), 5))
-            },
-            |(words, i)| {
-                let mut table = words.clone();
-                timed(|| assert_eq!(plain::put(&mut table, *i as u16 + 1), 5))
-            },
+            |(words, i)| timed(words, |table| assert_eq!(binding::put(table, *i as u32 + 1), 5)),
+            |(words, i)| timed(words, |table| assert_eq!(plain::put(table, *i as u16 + 1), 5)),
         );
         let mut rows = vec![soundness];
         for (name, tables) in
@@ -160,27 +155,15 @@ impl Bench {
             rows.push(self.row(
                 name,
                 tables,
-                |words| {
-                    let table = words.clone();
-                    timed(|| binding::report(&table))
-                },
-                |words| {
-                    let table = words.clone();
-                    timed(|| plain::report(&table))
-                },
+                |words| timed(words, |table| binding::report(table)),
+                |words| timed(words, |table| plain::report(table)),
             ));
         }
         rows.push(self.row(
             "play, a canonical tape",
             &tapes,
-            |tape| {
-                let mut table = empty.clone();
-                timed(|| assert_eq!(binding::play(&mut table, tape).number, 0))
-            },
-            |tape| {
-                let mut table = empty.clone();
-                timed(|| assert_eq!(plain::play(&mut table, tape).number, 0))
-            },
+            |tape| timed(&empty, |table| assert_eq!(binding::play(table, tape).number, 0)),
+            |tape| timed(&empty, |table| assert_eq!(plain::play(table, tape).number, 0)),
         ));
         for tape in &tapes {
             assert_eq!(binding::tape_needs(tape), plain::tape_needs(tape));
@@ -188,46 +171,25 @@ impl Bench {
         rows.push(self.row(
             "needs of a tape",
             &tapes,
-            |tape| {
-                let tape = tape.clone();
-                timed(|| binding::tape_needs(&tape))
-            },
-            |tape| {
-                let tape = tape.clone();
-                timed(|| plain::tape_needs(&tape))
-            },
+            |tape| timed(tape, |tape| binding::tape_needs(tape)),
+            |tape| timed(tape, |tape| plain::tape_needs(tape)),
         ));
         rows.push(self.row(
             "write a tape",
             &scattered,
-            |words| {
-                let table = words.clone();
-                timed(|| assert_eq!(binding::write_tape(&table, &mut out).number, 0))
-            },
-            |words| {
-                let table = words.clone();
-                timed(|| assert_eq!(plain::write_tape(&table, &mut other).number, 0))
-            },
+            |words| timed(words, |table| assert_eq!(binding::write_tape(table, &mut out).number, 0)),
+            |words| timed(words, |table| assert_eq!(plain::write_tape(table, &mut other).number, 0)),
         ));
         for (name, ties) in [("ring of 255", 255), ("ring of 2,048", 2048)] {
             if 2 * ties > capacity {
                 continue;
             }
-            let rings: Vec<(Vec<u16>, Vec<u16>)> = {
-                let (plan, ring) = dipole(ties, capacity);
-                vec![(plan.to_words(), ring)]
-            };
+            let (plan, ring) = dipole(ties, capacity);
             rows.push(self.row(
                 name,
-                &rings,
-                |(words, ring)| {
-                    let mut table = words.clone();
-                    timed(|| assert_eq!(binding::ring_cut(&mut table, ring), 0))
-                },
-                |(words, ring)| {
-                    let mut table = words.clone();
-                    timed(|| assert_eq!(plain::ring_cut(&mut table, ring), 0))
-                },
+                &[plan.to_words()],
+                |words| timed(words, |table| assert_eq!(binding::ring_cut(table, &ring), 0)),
+                |words| timed(words, |table| assert_eq!(plain::ring_cut(table, &ring), 0)),
             ));
         }
         let alone: Vec<Vec<u16>> = scattered
@@ -241,20 +203,14 @@ impl Bench {
         rows.push(self.row(
             "one join",
             &alone.iter().map(two_tabs).collect::<Vec<_>>(),
-            |(words, a, b)| {
-                let mut table = words.clone();
-                timed(|| assert_eq!(binding::edge_join(&mut table, *a as u32, *b as u32), 0))
-            },
-            |(words, a, b)| {
-                let mut table = words.clone();
-                timed(|| assert_eq!(plain::join(&mut table, plain::Dimension::Tie, *a, *b), 0))
-            },
+            |(words, a, b)| timed(words, |table| assert_eq!(binding::edge_join(table, *a as u32, *b as u32), 0)),
+            |(words, a, b)| timed(words, |table| assert_eq!(plain::join(table, plain::Dimension::Tie, *a, *b), 0)),
         ));
         rows.push(self.row(
             "screen",
             &tapes,
-            |tape| timed(|| assert_eq!(binding::screen(tape, &mut out), 0)),
-            |tape| timed(|| assert_eq!(plain::screen(tape, &mut other), 0)),
+            |tape| timed(tape, |tape| assert_eq!(binding::screen(tape, &mut out), 0)),
+            |tape| timed(tape, |tape| assert_eq!(plain::screen(tape, &mut other), 0)),
         ));
         assert_eq!(out, other, "both write the same answer");
         rows
