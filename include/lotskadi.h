@@ -62,7 +62,7 @@ struct lotskadi_totals {
     uint32_t pieces;
     int32_t characteristic; /* cells + ties + gaps - tabs */
     uint32_t handles;       /* pieces - characteristic / 2 */
-    uint32_t lifts;         /* magnet lifts to come */
+    uint32_t lifts;         /* magnet lifts to come: the pieces of at least two tabs */
 };
 
 /* What a question returns. */
@@ -160,7 +160,7 @@ struct lotskadi_answer lotskadi_write_tape(const uint16_t *table, size_t table_w
  *          24 to 27   pieces
  *          28 to 31   characteristic, in two's complement
  *          32 to 35   handles
- *          36 to 39   lifts
+ *          36 to 39   lifts: the pieces of at least two tabs
  *          40 on      the plan's tape, rewritten: tabs rising, then ties, then cells. It has 3 bytes for each tab and
  *                     5 for each tab that is not the smallest of its tie, and of its cell:
  *                     13 * tabs - 5 * ties - 5 * cells bytes

@@ -1,4 +1,5 @@
-/* The screen's call from C: the square's tape and a ring, a refused command, and both refusals of the call itself. */
+/* The screen's call from C: the square's tape, a refused command, a tab by itself, and both refusals of the call
+ * itself. */
 #include <stdio.h>
 #include <string.h>
 
@@ -59,6 +60,12 @@ int main(void) {
     expect(screen(handles, sizeof handles, LOTSKADI_SCREEN_ROOM) == LOTSKADI_OK, "a refused command is no refusal");
     expect_numbers(of_handles, "a plan with handles, and the refusal that stopped it");
     expect(memcmp(out + LOTSKADI_SCREEN_HEAD, handles, sizeof handles - 5) == 0, "the tape of the accepted commands");
+
+    /* two pieces, and one lift: a magnet can't hold tab 3 by itself */
+    static const uint8_t tie_and_tab[] = {1, 1, 0, 1, 2, 0, 1, 3, 0, 3, 1, 0, 2, 0};
+    static const uint32_t of_tie_and_tab[10] = {0, 4, 3, 2, 3, 2, 2, 4, 0, 1};
+    expect(screen(tie_and_tab, sizeof tie_and_tab, LOTSKADI_SCREEN_ROOM) == LOTSKADI_OK, "a tie and a tab by itself");
+    expect_numbers(of_tie_and_tab, "a tab by itself is no lift");
 
     static const uint32_t of_nothing[10] = {0};
     expect(screen(NULL, 0, LOTSKADI_SCREEN_ROOM) == LOTSKADI_OK, "an empty tape");

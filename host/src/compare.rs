@@ -7,7 +7,8 @@ use crate::needs;
 use crate::second::{self, Command, Dimension, Part, Plan, Tab};
 use std::fmt::Debug;
 
-/// What was met: how often each refusal, 0 for what was accepted; rings that were cut; plans with handles.
+/// What was met: how often each refusal, 0 for what was accepted; rings that were cut; plans with handles, and plans of
+/// which some pieces are lifted and others, of one tab, are not.
 #[derive(Default)]
 pub struct Met {
     pub refusals: [u64; 17],
@@ -15,6 +16,7 @@ pub struct Met {
     pub rings: u64,
     pub longest_ring: usize,
     pub with_handles: u64,
+    pub partly_lifted: u64,
     /// Runs that went as their tape's needs said.
     pub foretold: u64,
 }
@@ -146,6 +148,7 @@ impl Lent {
         assert_eq!(self.ask("a report", binding::report), expected, "report of {:?}", &self.words[..]);
         met.note(expected.number);
         met.with_handles += u64::from(expected.handles > 0);
+        met.partly_lifted += u64::from(0 < expected.lifts && expected.lifts < expected.pieces);
     }
 
     pub fn same(&self, met: &mut Met, part: Part, a: Tab, b: Tab) {
@@ -227,9 +230,7 @@ pub fn tape_needs(met: &mut Met, tape: &[u8], capacity: usize) {
     let answer = binding::tape_needs(&lent);
     assert_eq!(&lent[..], tape, "a tape is only read");
     let expected = match needs::needs(tape) {
-        Ok(n) => {
-            binding::Needs { number: 0, capacity: n.capacity, commands: n.commands, peak: n.peak, words: n.words }
-        }
+        Ok(n) => binding::Needs { number: 0, capacity: n.capacity, commands: n.commands, peak: n.peak, words: n.words },
         Err(number) => binding::Needs { number, ..binding::Needs::default() },
     };
     assert_eq!(answer, expected, "needs of {tape:?}");

@@ -83,15 +83,16 @@ fn count_orbits(table: &[u16], step: impl Fn(&[u16], u16) -> u16 + Copy) -> u32 
     mark_orbits(table, step, &mut marks)
 }
 
-fn count_pieces(table: &[u16]) -> u32 {
+/// How many pieces there are, and how many of them have at least two tabs.
+fn count_pieces(table: &[u16]) -> (u32, u32) {
     let mut marks = [0u16; 4096];
     let mut queue = [0u16; 4096];
-    let mut count = 0;
+    let (mut pieces, mut lifts) = (0, 0);
     for tab in 1..=(table.len() / 4) as u16 {
         if table[at(tab)] == 0 || marks[tab as usize - 1] != 0 {
             continue;
         }
-        count += 1;
+        pieces += 1;
         marks[tab as usize - 1] = tab;
         queue[0] = tab;
         let (mut head, mut tail) = (0, 1);
@@ -106,18 +107,19 @@ fn count_pieces(table: &[u16]) -> u32 {
                 }
             }
         }
+        lifts += (tail >= 2) as u32;
     }
-    count
+    (pieces, lifts)
 }
 
 fn counts(table: &[u16]) -> Totals {
     let tabs = table.chunks_exact(4).filter(|row| row[0] != 0).count() as u32;
     let (ties, cells, gaps) =
         (count_orbits(table, tie_step), count_orbits(table, cell_step), count_orbits(table, gap_step));
-    let pieces = count_pieces(table);
+    let (pieces, lifts) = count_pieces(table);
     let characteristic = cells as i32 + ties as i32 + gaps as i32 - tabs as i32;
     let handles = ((2 * pieces as i32 - characteristic) / 2) as u32;
-    Totals { number: 0, tabs, ties, cells, gaps, pieces, characteristic, handles, lifts: pieces }
+    Totals { number: 0, tabs, ties, cells, gaps, pieces, characteristic, handles, lifts }
 }
 
 pub fn report(table: &[u16]) -> Totals {

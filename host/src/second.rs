@@ -199,12 +199,14 @@ impl Plan {
 
     pub fn report(&self) -> Report {
         let count = |part| self.parts(part).len() as i64;
-        let (tabs, pieces) = (self.tie.len() as i64, count(Part::Piece));
-        let (ties, cells, gaps) = (count(Part::Tie), count(Part::Cell), count(Part::Gap));
+        let (tabs, ties, cells, gaps) = (self.tie.len() as i64, count(Part::Tie), count(Part::Cell), count(Part::Gap));
+        let sets = self.parts(Part::Piece);
+        let pieces = sets.len() as i64;
+        let lifts = sets.iter().filter(|set| set.len() >= 2).count() as i64;
         let characteristic = cells + ties + gaps - tabs;
         assert_eq!(characteristic % 2, 0, "an odd characteristic");
         let handles = pieces - characteristic / 2;
-        Report { tabs, ties, cells, gaps, pieces, characteristic, handles, lifts: pieces }
+        Report { tabs, ties, cells, gaps, pieces, characteristic, handles, lifts }
     }
 
     /// For each number the smallest tab of its piece, 0 where there is none.

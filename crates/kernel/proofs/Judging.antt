@@ -14,7 +14,7 @@ use Rattle.table.specs.Refusals.{wrongSize, bentTable, orElse, unless}
 use Rattle.table.specs.Layout.{Table, wordsPerDart, capacity, isPresent, isSound, hypermapOf}
 use Rattle.table.specs.Commands.{Command, presenceFault, commandFault, commandOn, leaves}
 use Rattle.table.proofs.Faults.{passed, fitting, onePresent, bothPresent}
-use Rattle.parts.specs.Counts.{countsOf}
+use Rattle.parts.specs.Counts.{lifts, countsOf}
 use Rattle.parts.specs.Inner.{CountedAtBoth}
 use Rattle.parts.specs.Marks.{componentMarks}
 use Rattle.parts.proofs.Marking.{marksLength}
@@ -62,12 +62,13 @@ pub record Reported (w : Table) : Type 0 where
   pub components : reportOf w .components ≡ components (hypermapOf w)
   pub characteristic : reportOf w .characteristic ≡ characteristic (hypermapOf w)
   pub genus : reportOf w .genus ≡ genus (hypermapOf w)
+  pub lifts : reportOf w .lifts ≡ lifts (hypermapOf w)
 
 pub reported : (w : Table) → tableFault w ≡ 0 → Reported w
 unfolding reportOf countsOf
 reported w e =
     let t = eq-eqb (tableFault w) 0 e in
-    record { number = rw t; components = rw t; characteristic = rw t; genus = rw t }
+    record { number = rw t; components = rw t; characteristic = rw t; genus = rw t; lifts = rw t }
 
 pub reportPassed : (w : Table) → reportOf w .number ≡ 0 → tableFault w ≡ 0
 unfolding reportOf

@@ -10,3 +10,4 @@ pub mod SecondDemand
 pub mod ThirdDemand
 pub mod Demands
 pub mod TapeNeeds
+pub mod Lifts

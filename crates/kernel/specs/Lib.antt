@@ -3,3 +3,4 @@ pub mod Tapes
 pub mod Plans
 pub mod Demands
 pub mod TapeNeeds
+pub mod Lifts

@@ -142,15 +142,15 @@ rows =
     -- capacity 0: eight zeros
     row 0 [] reports 0
     (plan (0 ∷ 0 ∷ 0 ∷ 0 ∷ 0 ∷ 0 ∷ 0 ∷ 0 ∷ []) [] [] []) ∷
-    -- one dart
+    -- one dart, and no lift
     row 1 (changes (puts 1) ∷ []) reports 0
-    (plan (1 ∷ 1 ∷ 1 ∷ 1 ∷ 1 ∷ 2 ∷ 0 ∷ 1 ∷ []) ((1 ∷ []) ∷ []) (1 ∷ []) (1 ∷ 1 ∷ 0 ∷ [])) ∷
-    -- an edge of two darts; its ring leaves two components
+    (plan (1 ∷ 1 ∷ 1 ∷ 1 ∷ 1 ∷ 2 ∷ 0 ∷ 0 ∷ []) ((1 ∷ []) ∷ []) (1 ∷ []) (1 ∷ 1 ∷ 0 ∷ [])) ∷
+    -- an edge of two darts; its ring leaves two components, each of one dart
     row 2 edgeOfTwo reports 0
     (plan (2 ∷ 1 ∷ 2 ∷ 1 ∷ 1 ∷ 2 ∷ 0 ∷ 1 ∷ []) ((1 ∷ 2 ∷ []) ∷ []) (1 ∷ 1 ∷ [])
     (1 ∷ 1 ∷ 0 ∷ 1 ∷ 2 ∷ 0 ∷ 3 ∷ 1 ∷ 0 ∷ 2 ∷ 0 ∷ [])) ∷
     row 2 edgeOfTwo (cutsRing (1 ∷ 2 ∷ [])) 0
-    (plan (2 ∷ 2 ∷ 2 ∷ 2 ∷ 2 ∷ 4 ∷ 0 ∷ 2 ∷ []) ((1 ∷ []) ∷ (2 ∷ []) ∷ []) (1 ∷ 2 ∷ []) (1 ∷ 1 ∷ 0 ∷ 1 ∷ 2 ∷ 0 ∷ [])) ∷
+    (plan (2 ∷ 2 ∷ 2 ∷ 2 ∷ 2 ∷ 4 ∷ 0 ∷ 0 ∷ []) ((1 ∷ []) ∷ (2 ∷ []) ∷ []) (1 ∷ 2 ∷ []) (1 ∷ 1 ∷ 0 ∷ 1 ∷ 2 ∷ 0 ∷ [])) ∷
     -- joined in vertex and edge; no ring there, and an edge cut leaves one component
     row 2 digon reports 0 digonPlan ∷
     row 2 digon (cutsRing (1 ∷ 2 ∷ [])) 13 digonPlan ∷

@@ -122,7 +122,8 @@ pub fn ring_cut(table: &mut [u16], ring: &[u16]) -> u8
 
 // QUESTIONS
 
-// How many darts, edges, vertices, faces and components there are, the characteristic, the genus and the lifts.
+// How many darts, edges, vertices, faces and components there are, the characteristic, the genus, and the lifts, which
+// are the components of at least two darts.
 pub fn report(table: &[u16]) -> Totals
     ensures { λ r. ⌜ r ≡ reportOf (now (table .entry)) ⌝ }
 {

@@ -5,4 +5,5 @@ pub mod Visits
 pub mod Flooding
 pub mod Signed
 pub mod Magnitudes
+pub mod Lifting
 pub mod Reporting

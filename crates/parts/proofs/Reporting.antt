@@ -10,7 +10,7 @@ use Rattle.hypermap.proofs.Basics.Lists.{keepShorter}
 use Rattle.hypermap.proofs.Laws.GenusTheorem.{eulerEquation, genusTheorem}
 use Rattle.table.specs.Layout.{Table, hypermapOf}
 use Rattle.table.proofs.Soundness.{soundHypermap, dartsFew}
-use Rattle.parts.specs.Counts.{countsOf}
+use Rattle.parts.specs.Counts.{lifts, countsOf}
 use Rattle.parts.specs.Inner.{Counted, Few, HasGenus}
 use Rattle.parts.specs.declared.Counts.{Counts}
 use Rattle.parts.proofs.Signed.{genusUnique}
@@ -53,8 +53,8 @@ module _ (w : Table) (k : Counted w) where
         euler = euler;
       }
 
-      abbrev counted : (g : ℕ) → Counts
-      counted g =
+      abbrev counted : (g l : ℕ) → Counts
+      counted g l =
           record {
             darts = d;
             edges = e;
@@ -63,11 +63,12 @@ module _ (w : Table) (k : Counted w) where
             components = c;
             characteristic = z;
             genus = g;
-            lifts = c;
+            lifts = l;
           }
 
-      pub countsAre : (g : ℕ) → z +ℤ pos (2 * g) ≡ pos (2 * c) → counted g ≡ countsOf w
+      pub countsAre :
+          (g l : ℕ) → z +ℤ pos (2 * g) ≡ pos (2 * c) → l ≡ lifts (hypermapOf w) → counted g l ≡ countsOf w
       unfolding countsOf
-      countsAre g h =
+      countsAre g l h isL =
           let isG = genusUnique z c g (genus (hypermapOf w)) h euler in
-          rw (characteristicIs, isG, isC, n .isDarts, n .isEdges, n .isVertices, n .isFaces)
+          rw (characteristicIs, isG, isC, n .isDarts, n .isEdges, n .isVertices, n .isFaces, isL)

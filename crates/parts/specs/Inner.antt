@@ -7,7 +7,8 @@ use lib.Dec.{eqb}
 use lib.IntN.{ℤ, pos, _+ℤ_}
 use lib.ListN.{length, getD}
 use Rattle.hypermap.specs.Lists.{among}
-use Rattle.table.specs.Layout.{Table, capacity, isPresent, isSound}
+use Rattle.hypermap.specs.Hypermap.{components}
+use Rattle.table.specs.Layout.{Table, capacity, isPresent, isSound, hypermapOf}
 use Rattle.table.specs.Inner.{SoundAt, SoundAtBoth}
 
 -- a sound table that the kernel's local arrays have room for
@@ -54,6 +55,11 @@ pub record Few (d e v f : ℕ) : Type 0 where
   pub edges : e ≤ 4096
   pub vertices : v ≤ 4096
   pub faces : f ≤ 4096
+
+-- a sound table and the number of its components
+pub record CountedParts (w : Table) (number : ℕ) : Type 0 where
+  pub counted : Counted w
+  pub isComponents : number ≡ components (hypermapOf w)
 
 -- Euler's equation has a solution, which is the genus
 pub record HasGenus (components : ℕ) (characteristic : ℤ) : Type 0 where

@@ -6,12 +6,13 @@ ghost use lib.ListN.{length};
 ghost use Rattle.hypermap.specs.Hypermap.{orbits, components};
 ghost use Rattle.table.specs.Layout.{hypermapOf};
 ghost use Rattle.table.specs.Inner.{kindOf};
-ghost use Rattle.parts.specs.Counts.{countsOf};
-ghost use Rattle.parts.specs.Inner.{Counted, Few, HasGenus};
+ghost use Rattle.parts.specs.Counts.{lifts, aloneDarts, countsOf};
+ghost use Rattle.parts.specs.Inner.{Counted, CountedParts, Few, HasGenus};
 use crate::Counts;
 use crate::flood::mark_components;
 use crate::marks::mark_orbits;
 use table::Orbit;
+use table::command;
 use table::words;
 
 pub fn count_darts(table: &[u16]) -> u32
@@ -48,6 +49,31 @@ pub fn count_components(table: &[u16]) -> u32
     mark_components(table, &mut marks[..n])
 }
 
+// The darts that are a component by themselves.
+pub fn count_alone(table: &[u16]) -> u32
+    requires { ⌜ Counted (now table) ⌝ }
+    ensures { λ r. ⌜ r ≡ length (aloneDarts (now (table .entry))) ⌝ }
+{
+    let n = words::capacity_of(table);
+    let mut count: u32 = 0;
+    let mut x: u16 = 1;
+    while words::wide(x) <= n {
+        if command::is_alone(table, x) {
+            count += 1;
+        }
+        x += 1;
+    }
+    count
+}
+
+// The components of at least two darts.
+pub fn count_lifts(table: &[u16], components: u32) -> u32
+    requires { ⌜ CountedParts (now table) components ⌝ }
+    ensures { λ r. ⌜ r ≡ lifts (hypermapOf (now (table .entry))) ⌝ }
+{
+    components - count_alone(table)
+}
+
 // Vertices, edges and faces less darts.
 pub fn characteristic_of(darts: u32, edges: u32, vertices: u32, faces: u32) -> i32
     requires { ⌜ Few darts edges vertices faces ⌝ }
@@ -75,6 +101,7 @@ pub fn counts(table: &[u16]) -> Counts
     let components = count_components(table);
     let characteristic = characteristic_of(darts, edges, vertices, faces);
     let genus = genus_of(components, characteristic);
+    let lifts = count_lifts(table, components);
     Counts {
         darts,
         edges,
@@ -83,6 +110,6 @@ pub fn counts(table: &[u16]) -> Counts
         components,
         characteristic,
         genus,
-        lifts: components,
+        lifts,
     }
 }

@@ -38,18 +38,19 @@ pub record Alone (w : Table) (x : ℕ) : Type 0 where
   pub present : isPresent w x ≡ true
   pub home : (k : Dimension) → wordAt w x (nextWord k) ≡ x
 
-pub takeOutPassed : (w : Table) (x : ℕ) → commandFault w (takesOut x) ≡ 0 → Alone w x
+pub aloneHome : (w : Table) (x : ℕ) → isAlone w x ≡ true → (k : Dimension) → wordAt w x (nextWord k) ≡ x
 unfolding isAlone
+aloneHome w x t =
+    elim [
+      | edge ↦ eqb-true (wordAt w x 0) x (andLeft (eqb (wordAt w x 0) x) (eqb (wordAt w x 2) x) t)
+      | vertex ↦ eqb-true (wordAt w x 2) x (andRight (eqb (wordAt w x 0) x) (eqb (wordAt w x 2) x) t)
+    ]
+
+pub takeOutPassed : (w : Table) (x : ℕ) → commandFault w (takesOut x) ≡ 0 → Alone w x
 takeOutPassed w x e =
     let p = passed (presenceFault w (x ∷ [])) _ e in
     let t = fitting (isAlone w x) _ (omega arith) (p .1) in
-    record {
-      present = onePresent w x (p .0);
-      home = elim [
-        | edge ↦ eqb-true (wordAt w x 0) x (andLeft (eqb (wordAt w x 0) x) (eqb (wordAt w x 2) x) t)
-        | vertex ↦ eqb-true (wordAt w x 2) x (andRight (eqb (wordAt w x 0) x) (eqb (wordAt w x 2) x) t)
-      ];
-    }
+    record { present = onePresent w x (p .0); home = aloneHome w x t }
 
 -- A JOIN
 pub record Joined (w : Table) (k : Dimension) (a b : ℕ) : Type 0 where

@@ -39,7 +39,7 @@ pub fn darts_fault(table: &[u16], a: u16, b: u16) -> u8
 }
 
 // Whether dart x is an edge and a vertex by itself.
-fn is_alone(table: &[u16], x: u16) -> bool
+pub fn is_alone(table: &[u16], x: u16) -> bool
     requires { ⌜ InTable (now table) x 0 ⌝ }
     ensures { λ r. ⌜ r ≡ isAlone (now (table .entry)) x ⌝ }
 {

@@ -38,15 +38,20 @@ genus-of-requires c κs =
     countsGenus _ (s f .pre) _ _ _ _ (named f) _ (c .before .count-components .ensures) _
     (toZ-ofZ (record { sfits = c .characteristic-of .ok }) ∙ c .characteristic-of .ensures)
 
+count-lifts-requires : tie.Need-count-lifts-requires
+count-lifts-requires c κs =
+    let n = c .before .before in record { counted = s (n .before) .pre; isComponents = n .count-components .ensures }
+
 returns : tie.Need-returns
 returns c =
-    let z = c .before in
+    let z = c .before .before in
     let f = z .before .before in
     countsAre _ (s f .pre) _ _ _ _ (named f) _ (z .before .count-components .ensures) _
-    (toZ-ofZ (record { sfits = z .characteristic-of .ok }) ∙ z .characteristic-of .ensures) _ (c .genus-of .ensures)
+    (toZ-ofZ (record { sfits = z .characteristic-of .ok }) ∙ z .characteristic-of .ensures) _ _
+    (c .before .genus-of .ensures) (c .count-lifts .ensures)
 
 pub counts-spec : {M : Type 1} → statement M
 counts-spec =
     tie.close
     (tie.spec (λ c κs. search needs) (λ c κs. search needs) (λ c κs. search needs) (λ c κs. search needs)
-    (λ c κs. search needs) characteristic-of-requires genus-of-requires returns)
+    (λ c κs. search needs) characteristic-of-requires genus-of-requires count-lifts-requires returns)
