@@ -5,13 +5,14 @@ use mathlib.Core.Bool.{Bool, false}
 use mathlib.Core.List.{List, _++_}
 use Prim.Native.Nat.{ℕ, _≤_, _<_}
 use native.Mathlib.Omega.{arith}
-use lib.Dec.{leb}
+use lib.Dec.{eqb, leb}
 use lib.ListN.{length, drop}
-use borrow.Author.Tests.{eq-eqb, ne-eqb, le-leb, lt-leb}
+use borrow.Author.Tests.{eqb-true, eq-eqb, ne-eqb, le-leb, lt-leb}
+use Rattle.hypermap.proofs.Basics.Bools.{byCases}
 use Rattle.table.specs.Refusals.{orElse, unless, shortRoom}
 use Rattle.table.specs.Layout.{Table}
 use Rattle.table.specs.Commands.{Command, presenceFault, commandFault, commandOn, commandLeaves, leaves}
-use Rattle.table.proofs.Faults.{refusedFirst, refusedSecond, refused}
+use Rattle.table.proofs.Faults.{passed, refusedFirst, refusedSecond, refused}
 use Rattle.parts.specs.Counts.{countsOf}
 use Rattle.parts.specs.declared.Counts.{Counts}
 use Rattle.rings.specs.Rings.{linksOf, ringFault, cutAlong, ringLeaves}
@@ -78,6 +79,10 @@ pub givenAnswer :
 unfolding answer
 givenAnswer f n t k e z = rw (eq-eqb n 0 (sym e ∙ z))
 
+pub answerNumber : (n : ℕ) (t : Bool) (k : ℕ) → answer n t k .number ≡ n
+unfolding answer
+answerNumber n t k = byCases (eqb n 0) (λ e. rw e (sym (eqb-true n 0 e))) (λ e. rw e)
+
 -- a refused report, and one that is not
 pub refusedReport : (w : Table) (f : ℕ) → f ≡ tableFault w → (f ≡ 0 → ⊥) → refusedTotals f ≡ reportOf w
 unfolding reportOf
@@ -88,7 +93,14 @@ pub givenReport :
 unfolding reportOf
 givenReport w f c e z q = rw (eq-eqb (tableFault w) 0 (sym e ∙ z)) (ap totalsOf q)
 
--- LISTS: refused before the room is judged, for want of room, or written
+-- LISTS: what an accepted one has passed
+pub listPassed : (n : ℕ) (xs o : List ℕ) → listAnswer n xs o .number ≡ 0 → (n ≡ 0) × (listFault n xs o ≡ 0)
+unfolding listAnswer listFault
+listPassed n xs o e =
+    let z = sym (answerNumber (listFault n xs o) false (length xs)) ∙ e in
+    (passed n (unless (leb (length xs) (length o)) shortRoom) z .0, z)
+
+-- refused before the room is judged, for want of room, or written
 module _ (n : ℕ) (xs o : List ℕ) (f : ℕ) (e : f ≡ n) where
   pub listFirst :
       (r : Answer) → r ≡ refusalOf f → (f ≡ 0 → ⊥) → (r ≡ listAnswer n xs o) × (o ≡ listLeaves n xs o)

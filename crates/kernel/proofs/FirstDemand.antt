@@ -8,7 +8,7 @@ use Prim.Native.Nat.{ℕ}
 use native.Mathlib.Omega.{arith}
 use lib.Dec.{eqb}
 use lib.ListN.{length, length-take, length-drop}
-use borrow.Author.Tests.{eqb-true, eq-eqb, ne-eqb}
+use borrow.Author.Tests.{eq-eqb, ne-eqb}
 use Rattle.hypermap.specs.Lists.{among}
 use Rattle.hypermap.proofs.Basics.Bools.{byCases}
 use Rattle.table.specs.Refusals.{shortRoom}
@@ -28,6 +28,7 @@ use Rattle.kernel.specs.Calls.{listAnswer, lookOf}
 use Rattle.kernel.specs.Tapes.{tapeFault, playFault, playOutcome, screenFault, screenLeaves}
 use Rattle.kernel.specs.Demands.{Refuses, RefusesAnswer, tableNumbers}
 use Rattle.kernel.specs.Demands.{FirstDemand}
+use Rattle.kernel.proofs.Answering.{answerNumber}
 use Rattle.kernel.proofs.Judging.{dartsReady}
 use Rattle.kernel.proofs.RefusalNumbers.{One, none, unlessOne, orElseOne, tableOne, presenceOne, commandOne}
 use Rattle.kernel.proofs.RefusalNumbers.{ringOne, playOne, runOne}
@@ -42,10 +43,6 @@ answerRefuses n t k f =
     byCases (eqb n 0)
     (λ e. rw e (record { one = λ z. absurd (z refl); zeros = λ z. absurd (z refl) }))
     (λ e. rw e (record { one = f .one; zeros = λ z. refl }))
-
-answerNumber : (n : ℕ) (t : Bool) (k : ℕ) → answer n t k .number ≡ n
-unfolding answer
-answerNumber n t k = byCases (eqb n 0) (λ e. rw e (sym (eqb-true n 0 e))) (λ e. rw e)
 
 listRefuses :
     (n : ℕ) (xs o : List ℕ) {ns : List ℕ} → One n ns → among shortRoom ns ≡ true →

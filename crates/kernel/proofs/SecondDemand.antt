@@ -3,26 +3,22 @@
 -- Assumes nothing.
 use mathlib.Core.Path.{_≡_, refl, ap, sym, _∙_}
 use mathlib.Core.Logic.{_↔_}
-use mathlib.Core.Bool.{Bool, true, false}
+use mathlib.Core.Bool.{true, false}
 use mathlib.Core.List.{List, [], _∷_}
 use Prim.Native.Nat.{ℕ, _≤_}
 use native.Mathlib.Omega.{arith}
-use lib.Dec.{eqb, leb}
 use lib.ListN.{length, replicate, length-replicate}
-use borrow.Author.Tests.{eqb-true, eq-eqb}
+use borrow.Author.Tests.{eq-eqb}
 use Rattle.hypermap.specs.Hypermap.{Dimension, edge, vertex, of, face, isDart, isHypermap}
 use Rattle.hypermap.specs.Change.{change}
-use Rattle.hypermap.proofs.Basics.Bools.{byCases}
 use Rattle.hypermap.proofs.Laws.Orbits.{orbitLaw}
 use Rattle.hypermap.proofs.Laws.Components.{componentLaw}
 use Rattle.hypermap.proofs.Theory.{theory}
-use Rattle.table.specs.Refusals.{unless, shortRoom}
 use Rattle.table.specs.Layout.{Table, isPresent, hypermapOf}
 use Rattle.table.specs.Commands.{Command, joins, cuts, swapped, isTogether, commandOn}
 use Rattle.table.specs.Inner.{kindOf}
 use Rattle.table.specs.Laws.{Holds}
 use Rattle.table.specs.declared.Orbit.{Orbit}
-use Rattle.table.proofs.Faults.{passed}
 use Rattle.table.proofs.OnlyTables.{tableLaw}
 use Rattle.table.proofs.Soundness.{memPresent, soundHypermap}
 use Rattle.table.proofs.Swaps.{swapLaw}
@@ -41,7 +37,7 @@ use Rattle.kernel.specs.Calls.{tableFault, callFault, callLeaves, questi
 use Rattle.kernel.specs.Calls.{listFault, listLeaves, listAnswer, roundOf, roundAnswer}
 use Rattle.kernel.specs.Tapes.{playOutcome}
 use Rattle.kernel.specs.Demands.{JoinsBy, CutsBy, RingsBy, Shares, IsRound, SecondDemand}
-use Rattle.kernel.proofs.Answering.{givenAnswer, givenReport}
+use Rattle.kernel.proofs.Answering.{givenAnswer, answerNumber, givenReport, listPassed}
 use Rattle.kernel.proofs.Judging.{tablePassed, tableFits, sizeStays, wholeWords, reportPassed, callPassed}
 use Rattle.table.proofs.Accepting.{joinPassed, joinFits, cutPassed, cutFits}
 use Rattle.kernel.proofs.Judging.{callFits, acceptedLeaves}
@@ -109,11 +105,7 @@ ringAccepted w ws = (
   λ p. ringFits w ws (p .0) (conditionsLaw w ws .1 (p .1, p .2)),
 )
 
--- QUESTIONS: an answer with number 0 is not a refusal
-answerPassed : (n : ℕ) (t : Bool) (k : ℕ) → answer n t k .number ≡ 0 → n ≡ 0
-unfolding answer
-answerPassed n t k e = byCases (eqb n 0) (λ u. eqb-true n 0 u) (λ u. rw u at e)
-
+-- QUESTIONS
 shares :
     (w : Table) (p : Part) (a b : ℕ) → isHypermap (hypermapOf w) ≡ true → isDart (hypermapOf w) a ≡ true →
     (isSame w p a b ≡ true) ↔ Shares (hypermapOf w) p a b
@@ -128,26 +120,22 @@ same :
 unfolding sameAnswer
 same w p a b e =
     let q = questionFault w (a ∷ b ∷ []) in
-    let z = answerPassed q (isSame w p a b) 0 e in
+    let z = sym (answerNumber q (isSame w p a b) 0) ∙ e in
     let r = dartsReady w a b z .both in
     rw (← givenAnswer q q (isSame w p a b) 0 refl z)
     (shares w p a b (soundHypermap w (r .sound)) (memPresent w a ∙ r .first))
-
-listPassed : (n : ℕ) (xs out : List ℕ) → listFault n xs out ≡ 0 → n ≡ 0
-unfolding listFault
-listPassed n xs out z = passed n (unless (leb (length xs) (length out)) shortRoom) z .0
 
 round : (w : Table) (o : Orbit) (x : ℕ) (out : List ℕ) → roundAnswer w o x out .number ≡ 0 → IsRound w o x out
 unfolding listAnswer listLeaves
 round w o x out e =
     let q = questionFault w (x ∷ []) in
     let l = roundOf w o x in
-    let z = answerPassed (listFault q l out) false (length l) e in
-    let r = dartReady w x (listPassed q l out z) in
+    let p = listPassed q l out e in
+    let r = dartReady w x (p .0) in
     record {
       orbit = orbitLaw (hypermapOf w) (soundHypermap w (r .sound)) (kindOf o) .0 x (memPresent w x ∙ r .here);
-      count = ap (λ a. a .count) (sym (givenAnswer _ (listFault q l out) false (length l) refl z));
-      written = rw (eq-eqb (listFault q l out) 0 z);
+      count = ap (λ a. a .count) (sym (givenAnswer _ (listFault q l out) false (length l) refl (p .1)));
+      written = rw (eq-eqb (listFault q l out) 0 (p .1));
     }
 
 -- THE TAPE
