@@ -119,7 +119,7 @@ struct lotskadi_answer lotskadi_same_face(const uint16_t *table, size_t table_wo
 struct lotskadi_answer lotskadi_same_component(const uint16_t *table, size_t table_words, uint32_t a, uint32_t b);
 
 /* The tie, cell or gap of a tab into out, in walking order, that tab first; words behind it stay. A plan of n tabs has
- * none longer than n. Refusals: 1 2 3 4 14. */
+ * none longer than n, so 4,096 words are room for any. Refusals: 1 2 3 4 14. */
 struct lotskadi_answer lotskadi_edge_round(const uint16_t *table, size_t table_words, uint32_t tab, uint16_t *out,
                                            size_t out_words);
 struct lotskadi_answer lotskadi_vertex_round(const uint16_t *table, size_t table_words, uint32_t tab, uint16_t *out,

@@ -7,14 +7,15 @@ use crate::needs;
 use crate::second::{self, Command, Dimension, Part, Plan, Tab};
 use std::fmt::Debug;
 
-/// What was met: how often each refusal, 0 for what was accepted; rings that were cut; plans with handles, and plans of
-/// which some pieces are lifted and others, of one tab, are not.
+/// What was met: how often each refusal, 0 for what was accepted; rings that were cut, and rounds; plans with handles,
+/// and plans of which some pieces are lifted and others, of one tab, are not.
 #[derive(Default)]
 pub struct Met {
     pub refusals: [u64; 17],
     pub calls: u64,
     pub rings: u64,
     pub longest_ring: usize,
+    pub longest_round: usize,
     pub with_handles: u64,
     pub partly_lifted: u64,
     /// Runs that went as their tape's needs said.
@@ -192,6 +193,9 @@ impl Lent {
             Part::Cell => binding::vertex_round(words, tab, out),
             _ => binding::face_round(words, tab, out),
         });
+        if fault == 0 && list.len() <= room {
+            met.longest_round = met.longest_round.max(list.len());
+        }
     }
 
     pub fn marks(&self, met: &mut Met, room: usize) {

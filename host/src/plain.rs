@@ -129,6 +129,38 @@ pub fn report(table: &[u16]) -> Totals {
     }
 }
 
+/// The gap of a tab into a buffer: counted first, so that a short one stays as it was.
+fn write_gap(table: &[u16], tab: u16, out: &mut [u16]) -> Answer {
+    let mut count = 0;
+    let mut x = tab;
+    loop {
+        x = gap_step(table, x);
+        count += 1;
+        if x == tab {
+            break;
+        }
+    }
+    if out.len() < count {
+        return Answer { number: 14, ..Answer::default() };
+    }
+    for word in &mut out[..count] {
+        *word = x;
+        x = gap_step(table, x);
+    }
+    Answer { number: 0, yes: false, count: count as u32 }
+}
+
+pub fn gap_round(table: &[u16], tab: u16, out: &mut [u16]) -> Answer {
+    let number = match table_fault(table) {
+        0 => presence(table, &[tab]),
+        fault => fault,
+    };
+    match number {
+        0 => write_gap(table, tab, out),
+        _ => Answer { number, ..Answer::default() },
+    }
+}
+
 // COMMANDS on a sound table
 
 fn is_present(table: &[u16], tab: u16) -> bool {

@@ -7,7 +7,7 @@ use Prim.Native.Nat.{ℕ, _≤_, _<_}
 use native.Mathlib.Omega.{arith}
 use lib.Dec.{eqb, leb}
 use lib.ListN.{length, drop}
-use borrow.Author.Tests.{eqb-true, eq-eqb, ne-eqb, le-leb, lt-leb}
+use borrow.Author.Tests.{eqb-true, eqb-false, eq-eqb, ne-eqb, le-leb, lt-leb}
 use Rattle.hypermap.proofs.Basics.Bools.{byCases}
 use Rattle.table.specs.Refusals.{orElse, unless, shortRoom}
 use Rattle.table.specs.Layout.{Table}
@@ -99,6 +99,15 @@ unfolding listAnswer listFault
 listPassed n xs o e =
     let z = sym (answerNumber (listFault n xs o) false (length xs)) ∙ e in
     (passed n (unless (leb (length xs) (length o)) shortRoom) z .0, z)
+
+-- with room for the list, only what comes before the room is refused
+pub listRoom : (n : ℕ) (xs o : List ℕ) → (n ≡ 0 → length xs ≤ length o) → listAnswer n xs o .number ≡ n
+unfolding listAnswer listFault unless
+listRoom n xs o h =
+    answerNumber (listFault n xs o) false (length xs) ∙
+    byCases (eqb n 0)
+    (λ t. let z = eqb-true n 0 t in sym (refusedSecond n _ n n refl z (rw (le-leb (length xs) (length o) (h z)) z)))
+    (λ t. sym (refusedFirst n _ n refl (eqb-false n 0 t)))
 
 -- refused before the room is judged, for want of room, or written
 module _ (n : ℕ) (xs o : List ℕ) (f : ℕ) (e : f ≡ n) where

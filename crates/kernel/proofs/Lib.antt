@@ -11,3 +11,4 @@ pub mod ThirdDemand
 pub mod Demands
 pub mod TapeNeeds
 pub mod Lifts
+pub mod Rounds

@@ -4,3 +4,4 @@ pub mod Plans
 pub mod Demands
 pub mod TapeNeeds
 pub mod Lifts
+pub mod Rounds

@@ -1,24 +1,28 @@
 -- Walks round an orbit of a sound table. Where a walk stands, what follows in the orbit is its way home: one dart
--- shorter after each step, which is the measure of every walk, and empty before the last. Assumes nothing.
+-- shorter after each step, which is the measure of every walk, and empty before the last. And how long an orbit is: a
+-- walk may count its steps in a word. Assumes nothing.
 use mathlib.Core.Path.{_≡_, refl, ap, sym, _∙_}
 use mathlib.Core.Bool.{true}
 use mathlib.Core.List.{List, [], _∷_, _++_}
-use Prim.Native.Nat.{ℕ, _+_, _≤_, _<_}
+use Prim.Native.Nat.{ℕ, _+_, _-_, _^_, _≤_, _<_}
 use native.Mathlib.Nat.{zero-add, add-zero}
 use native.Mathlib.Numerals.{add-one}
 use native.Mathlib.Omega.{arith}
 use lib.ListN.{length, getD, take, drop, set, length-drop, length-set}
 use lib.Seq.{take-length, drop-drop, getD-drop, paste-suc}
+use mir.Syntax.{Width}
+use mir.Val.{bits, Fits}
 use borrow.Author.Tests.{eq-eqb}
-use Rattle.hypermap.specs.Hypermap.{Kind, of, face, step, orbitOf, sameOrbit}
+use Rattle.hypermap.specs.Hypermap.{edge, Kind, step, orbitOf, sameOrbit}
 use Rattle.hypermap.specs.Laws.{Equivalence, IsOrbit}
 use Rattle.hypermap.proofs.Basics.Lists.{Mem, memHead, pigeonhole}
-use Rattle.hypermap.proofs.Permutations.Reaching.{ride, onward}
+use Rattle.hypermap.proofs.Permutations.Reaching.{onward}
 use Rattle.hypermap.proofs.Laws.Orbits.{orbitLaw}
-use Rattle.table.specs.Layout.{Table, wordAt, upFrom, isSound, hypermapOf}
+use Rattle.table.specs.Layout.{Table, capacity, wordAt, upFrom, isPresent, isSound, hypermapOf}
 use Rattle.table.specs.Inner.{SoundAt, HasRoom}
+use Rattle.table.specs.Laws.{LengthLaw}
 use Rattle.table.proofs.Numbers.{memUpFrom, upFromLength}
-use Rattle.table.proofs.Soundness.{memPresent, soundHypermap}
+use Rattle.table.proofs.Soundness.{low, high, memPresent, links, soundHypermap}
 use Rattle.table.proofs.Following.{after, lastHome, stepFollows}
 
 orbitAt :
@@ -67,6 +71,31 @@ module _ {w : Table} {c : Kind} {x at : ℕ} (s : SoundAt w x) (o : On w c x at)
     pub nearer : (y ≡ x → ⊥) → length (wayHome w c x y) < length (wayHome w c x at)
     nearer n = omega (arith, ap length (wayGoes n))
 
+-- HOW LONG AN ORBIT IS: its darts are numbers from 1 on, each listed once, so where none is above n there are at most n
+module _ (w : Table) (s : isSound w ≡ true) where
+  inNumbers :
+      (c : Kind) (x : ℕ) → isPresent w x ≡ true → (n : ℕ) → ((y : ℕ) → isPresent w y ≡ true → y ≤ n) →
+      length (orbitOf (hypermapOf w) c x) ≤ n
+  inNumbers c x h n most =
+      let d : SoundAt w x = record { sound = s; here = h } in
+      let listed : (y : ℕ) → Mem y (orbitOf (hypermapOf w) c x) → Mem y (upFrom 1 n) =
+      λ y i. let p = soundOn {c = c} d (record { member = i }) .here in
+      memUpFrom n 1 y (low w y p) (omega (arith, most y p)) in
+      omega (arith, pigeonhole _ (upFrom 1 n) (orbitAt w c x d .once) listed, upFromLength 1 n)
+
+  -- a dart is a word: the successor of its predecessor
+  dartBelow : (n : ℕ) → ((i : ℕ) → getD w i 0 < n) → (y : ℕ) → isPresent w y ≡ true → y < n
+  unfolding wordAt
+  dartBelow n words y p = rw (← links w s edge y p .nextBack) (words _)
+
+pub lengthLaw : LengthLaw
+lengthLaw w s c x h = record {
+  inCapacity = inNumbers w s c x h (capacity w) (high w);
+  inWord = λ n words.
+      let l = inNumbers w s c x h (n - 1) (λ y p. omega (arith, dartBelow w s n words y p)) in
+      omega (arith, words 0);
+}
+
 -- A COUNTED WALK stands at the dart at after k steps
 pub record Walks (w : Table) (c : Kind) (x at k : ℕ) : Type 0 where
   pub on : On w c x at
@@ -84,6 +113,12 @@ module _ {w : Table} {c : Kind} {x at k : ℕ} (g : Walks w c x at k) where
       let l = orbitOf (hypermapOf w) c x in
       ap (λ j. getD l j 0) (sym (add-zero k)) ∙ sym (getD-drop k l 0 0) ∙ ap (λ l. getD l 0 0) (g .ahead)
 
+  -- a counter as wide as a word has room for one step more
+  pub walksCounted : SoundAt w x → {t : Width} → ((i : ℕ) → Fits t (getD w i 0)) → Fits t (k + 1)
+  walksCounted s {t} words =
+      let l = lengthLaw w (s .sound) c x (s .here) .inWord (2 ^ bits t) (λ i. words i .fits) in
+      record { fits = omega (arith, walksEarly) }
+
   passed : drop (k + 1) (orbitOf (hypermapOf w) c x) ≡ wayHome w c x at
   passed = sym (drop-drop 1 k _) ∙ ap (drop 1) (g .ahead)
 
@@ -95,22 +130,6 @@ module _ {w : Table} {c : Kind} {x at k : ℕ} (g : Walks w c x at k) where
 
     pub walksOn : (y ≡ x → ⊥) → Walks w c x y (k + 1)
     walksOn n = record { on = onNext s (g .on) e; ahead = passed ∙ wayGoes s (g .on) e n }
-
--- each dart of an orbit is a word of the table, so there are no more of them than values of a word
-module _ (w : Table) (c : Kind) (x n : ℕ) (s : SoundAt w x) (small : x < n) (words : (i : ℕ) → getD w i 0 < n) where
-  stepBelow : (c : Kind) (z : ℕ) → z < n → step (hypermapOf w) c z < n
-  unfolding wordAt
-  stepBelow (of k) z l = words _
-  stepBelow face z l = words _
-
-  pub orbitBelow : length (orbitOf (hypermapOf w) c x) ≤ n
-  orbitBelow =
-      let o = orbitAt w c x s in
-      let below : (z : ℕ) → Mem z (orbitOf (hypermapOf w) c x) → z < n =
-      λ z m. ride (step (hypermapOf w) c) (λ z. z < n) (stepBelow c) x z (o .members z .0 m) small in
-      let p = pigeonhole (orbitOf (hypermapOf w) c x) (upFrom 0 n) (o .once)
-      (λ z m. memUpFrom n 0 z (omega arith) (omega (arith, below z m))) in
-      omega (arith, upFromLength 0 n)
 
 -- A WRITTEN WALK leaves the first k darts of the orbit in a list, and after them what was there
 pub record Writes (w : Table) (c : Kind) (x : ℕ) (old out : List ℕ) (at k : ℕ) : Type 0 where

@@ -1,4 +1,5 @@
-// Walks from dart to dart of a sound table. A walk needs no counter to end: by the law of orbits it comes home.
+// Walks from dart to dart of a sound table. A walk needs no counter to end: by the law of orbits it comes home. One
+// that counts its steps counts in 16 bits: no orbit passes the capacity, nor has as many darts as a word has values.
 ghost use mathlib.Core.Path.{_≡_};
 ghost use mathlib.Core.List.{_++_};
 ghost use lib.ListN.{length, drop};
@@ -54,14 +55,15 @@ pub fn orbit_length(table: &[u16], orbit: Orbit, x: u16) -> u32
     ensures { λ r. ⌜ r ≡ length (orbitOf (hypermapOf (now (table .entry))) (kindOf orbit) x) ⌝ }
 {
     let mut at = x;
-    let mut steps: u32 = 0;
-    loop {
+    let mut steps: u16 = 0;
+    let count = loop {
         at = step(table, orbit, at);
         steps += 1;
         if at == x {
             break steps;
         }
-    }
+    };
+    count as u32
 }
 
 // Writes an orbit to the front of out, in walking order.
@@ -71,10 +73,10 @@ pub fn write_orbit(table: &[u16], orbit: Orbit, x: u16, out: &mut [u16])
         drop (length (orbitOf (hypermapOf (now (table .entry))) (kindOf orbit) x)) (now (out .entry)) ⌝ }
 {
     let mut at = x;
-    let mut i = 0;
+    let mut written: u16 = 0;
     loop {
-        out[i] = at;
-        i += 1;
+        out[written as usize] = at;
+        written += 1;
         at = step(table, orbit, at);
         if at == x {
             return;

@@ -83,6 +83,18 @@ fn random_plan(random: &mut Random, capacity: usize) -> Plan {
     Plan { capacity, tie: shuffled(random), cell: shuffled(random) }
 }
 
+/// All tabs in one tie and in one gap, in a random order.
+fn one_gap(random: &mut Random, capacity: usize) -> Plan {
+    let mut order: Vec<Tab> = (1..=capacity as Tab).collect();
+    random.shuffle(&mut order);
+    let next = order.iter().cycle().skip(1);
+    Plan {
+        capacity,
+        tie: order.iter().copied().zip(next.copied()).collect(),
+        cell: (1..=capacity as Tab).map(|t| (t, t)).collect(),
+    }
+}
+
 /// Two cells with `ties` ties of two tabs between them, and the ring through all of these.
 fn dipole(ties: usize, capacity: usize) -> (Plan, Vec<u16>) {
     let mut plan = Plan::empty(capacity);
@@ -159,6 +171,18 @@ impl Bench {
                 |words| timed(words, |table| plain::report(table)),
             ));
         }
+        let gaps: Vec<Vec<u16>> = (0..PLANS).map(|_| one_gap(&mut self.random, capacity).to_words()).collect();
+        let (mut round, mut other_round) = (vec![0u16; capacity], vec![0u16; capacity]);
+        for words in &gaps {
+            assert_eq!(binding::face_round(words, 1, &mut round), plain::gap_round(words, 1, &mut other_round));
+            assert_eq!(round, other_round, "both write the same round");
+        }
+        rows.push(self.row(
+            "round of all tabs",
+            &gaps,
+            |words| timed(words, |table| binding::face_round(table, 1, &mut round)),
+            |words| timed(words, |table| plain::gap_round(table, 1, &mut other_round)),
+        ));
         rows.push(self.row(
             "play, a canonical tape",
             &tapes,

@@ -37,6 +37,14 @@ fn plan(random: &mut Random) -> Plan {
     }
 }
 
+/// The round of a tab, into a buffer of a length around the round's.
+fn round(random: &mut Random, met: &mut Met, lent: &Lent, part: Part, tab: Tab) {
+    let plan = lent.plan();
+    let length = if plan.is_present(tab) { plan.part(part, tab).len() } else { 1 };
+    let room = around(random, length);
+    lent.round(met, part, tab, room);
+}
+
 /// Every question about some tabs, with buffers of lengths around the answer's.
 fn questions(random: &mut Random, met: &mut Met, lent: &Lent) {
     let plan = lent.plan();
@@ -45,9 +53,7 @@ fn questions(random: &mut Random, met: &mut Met, lent: &Lent) {
         let (a, b) = (*random.one_of(&some), *random.one_of(&some));
         lent.same(met, *random.one_of(&PARTS), a, b);
         let part = *random.one_of(&PARTS[..3]);
-        let length = if plan.is_present(a) { plan.part(part, a).len() } else { 1 };
-        let room = around(random, length);
-        lent.round(met, part, a, room);
+        round(random, met, lent, part, a);
     }
     lent.report(met);
     let room = around(random, plan.capacity);
@@ -185,6 +191,10 @@ fn full(random: &mut Random, met: &mut Met) {
     lent.report(met);
     lent.write_tape(met, 53_238);
     lent.marks(met, capacity);
+    for part in &PARTS[..3] {
+        let tab = 1 + random.below(capacity) as Tab;
+        round(random, met, &lent, *part, tab);
+    }
     for command in [
         Command::Put(capacity as Tab),
         Command::Put(capacity as Tab + 1),
@@ -227,8 +237,8 @@ fn main() {
     }
     println!("seed {seed}, {seconds} s: {} calls in {turns} turns agreed", met.calls);
     println!(
-        "{} rings cut, the longest of {} crossings; {} runs as foretold",
-        met.rings, met.longest_ring, met.foretold
+        "{} rings cut, the longest of {} crossings; the longest round of {} tabs; {} runs as foretold",
+        met.rings, met.longest_ring, met.longest_round, met.foretold
     );
     println!("{} reports of plans with handles, {} of plans lifted in part", met.with_handles, met.partly_lifted);
     println!("refusals (0: accepted) and how often each was met:");
@@ -237,5 +247,6 @@ fn main() {
     }
     let all_met = met.refusals.iter().all(|&times| times > 0);
     let plans_met = met.rings > 0 && met.with_handles > 0 && met.partly_lifted > 0 && met.foretold > 0;
-    assert!(all_met && plans_met, "something was never met");
+    let longest_met = met.longest_round == second::MAX_CAPACITY;
+    assert!(all_met && plans_met && longest_met, "something was never met");
 }

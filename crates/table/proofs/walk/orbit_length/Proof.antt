@@ -2,7 +2,7 @@ use native.Mathlib.Omega.{arith}
 use lib.ListN.{length}
 use Rattle.table.specs.Inner.{kindOf}
 use Rattle.table.proofs.Walking.{wayHome, soundOn, nearer}
-use Rattle.table.proofs.Walking.{Walks, walksFirst, walksEarly, walksHome, walksOn, orbitBelow}
+use Rattle.table.proofs.Walking.{Walks, walksFirst, walksCounted, walksHome, walksOn}
 use Rattle.table.proofs.walk.orbit_length.Statement.{statement}
 use Rattle.table.proofs.walk.orbit_length.Tie as tie
 
@@ -18,10 +18,8 @@ step-requires c κs = soundOn (c .before .before .pre) (c .loop .inv .on)
 add-steps : tie.Need-add-steps Inv-loop μ-loop
 add-steps c =
     let l = c .before in
-    let s = l .before .before in
-    let b = orbitBelow _ (kindOf (s .args .orbit)) _ 65536 (s .pre) (omega arith)
-    (λ i. omega (arith, l .before .shared-slice-known .given i)) in
-    omega (arith, walksEarly (l .loop .inv))
+    let f = walksCounted (l .loop .inv) (l .before .before .pre) (l .before .shared-slice-known .given) in
+    omega arith
 
 loop-less : tie.Need-loop-less Inv-loop μ-loop
 loop-less c =
@@ -33,6 +31,9 @@ loop-again c =
     let l = c .before .before in
     walksOn (l .loop .inv) (l .before .before .pre) (c .before .step .ensures) (c .if1 .left)
 
+cast-result : tie.Need-cast-result Inv-loop μ-loop
+cast-result c = let f = add-steps (c .before) in omega arith
+
 returns : tie.Need-returns Inv-loop μ-loop
 returns c =
     let l = c .before .before in
@@ -40,4 +41,14 @@ returns c =
 
 pub orbit-length-spec : {M : Type 1} → statement M
 orbit-length-spec =
-    tie.close (tie.spec Inv-loop μ-loop (λ c. walksFirst) step-requires add-steps loop-less loop-again returns)
+    tie.close
+    (tie.spec
+    Inv-loop
+    μ-loop
+    (λ c. walksFirst)
+    step-requires
+    add-steps
+    loop-less
+    loop-again
+    cast-result
+    returns)

@@ -1,17 +1,21 @@
 use mathlib.Core.Path.{_∙_}
+use native.Mathlib.Omega.{arith}
 use lib.ListN.{length, length-set}
 use borrow.Author.Needs.{needs}
 use Rattle.table.specs.Inner.{kindOf}
-use Rattle.table.proofs.Walking.{wayHome, soundOn, nearer}
+use Rattle.table.proofs.Walking.{wayHome, soundOn, nearer, walksCounted}
 use Rattle.table.proofs.Walking.{Writes, writesFirst, writesInside, writesHome, writesOn}
 use Rattle.table.proofs.walk.write_orbit.Statement.{statement}
 use Rattle.table.proofs.walk.write_orbit.Tie as tie
 
 abbrev Inv-loop : tie.InvT-loop
-Inv-loop table orbit x out₀ at₀ i₀ out at i = Writes table (kindOf orbit) x out₀ out at i
+Inv-loop table orbit x out₀ at₀ written₀ out at written = Writes table (kindOf orbit) x out₀ out at written
 
 abbrev μ-loop : tie.MeasureT-loop
-μ-loop table orbit x out₀ at₀ i₀ out at i = length (wayHome table (kindOf orbit) x at)
+μ-loop table orbit x out₀ at₀ written₀ out at written = length (wayHome table (kindOf orbit) x at)
+
+cast-out : tie.Need-cast-out Inv-loop μ-loop
+cast-out c = let h = writesInside (c .before .before .before .pre) (c .loop .inv) in search needs
 
 mul-out : tie.Need-mul-out Inv-loop μ-loop
 mul-out c = let h = writesInside (c .before .before .before .pre) (c .loop .inv) in search needs
@@ -19,8 +23,11 @@ mul-out c = let h = writesInside (c .before .before .before .pre) (c .loop .inv)
 slice-write-out : tie.Need-slice-write-out Inv-loop μ-loop
 slice-write-out c = writesInside (c .before .before .before .pre) (c .loop .inv)
 
-add-i : tie.Need-add-i Inv-loop μ-loop
-add-i c = let h = writesInside (c .before .before .before .pre) (c .loop .inv) in search needs
+add-written : tie.Need-add-written Inv-loop μ-loop
+add-written c =
+    let b = c .before .before in
+    let f = walksCounted (c .loop .inv .walk) (b .before .pre .dart) (b .shared-slice-known .given) in
+    omega arith
 
 step-requires : tie.Need-step-requires Inv-loop μ-loop
 step-requires c κs = soundOn (c .before .before .before .pre .dart) (c .loop .inv .walk .on)
@@ -50,9 +57,10 @@ write-orbit-spec =
     Inv-loop
     μ-loop
     (λ c. writesFirst)
+    cast-out
     mul-out
     slice-write-out
-    add-i
+    add-written
     step-requires
     same-length
     returns
