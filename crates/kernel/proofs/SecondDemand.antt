@@ -33,7 +33,7 @@ use Rattle.writer.specs.Canonical.{tapeOf}
 use Rattle.writer.specs.Laws.{IsBuilt}
 use Rattle.writer.proofs.Sizes.{tapeFits}
 use Rattle.writer.proofs.Building.{buildLaw, onlyTapeLaw}
-use Rattle.kernel.specs.Calls.{tableFault, callFault, callLeaves, questionFault, answer, sameAnswer}
+use Rattle.kernel.specs.Calls.{tableFault, callFault, callLeaves, questionFault, sameAnswer}
 use Rattle.kernel.specs.Calls.{listFault, listLeaves, listAnswer, roundOf, roundAnswer}
 use Rattle.kernel.specs.Tapes.{playOutcome}
 use Rattle.kernel.specs.Demands.{JoinsBy, CutsBy, RingsBy, Shares, IsRound, SecondDemand}
