@@ -56,6 +56,7 @@ mod c {
         pub fn lotskadi_vertex_cut(table: *mut u16, words: usize, a: u32, b: u32) -> u8;
         pub fn lotskadi_ring_cut(table: *mut u16, words: usize, ring: *const u16, ring_words: usize) -> u8;
         pub fn lotskadi_report(table: *const u16, words: usize) -> Totals;
+        pub fn lotskadi_component_report(table: *const u16, words: usize, tab: u32) -> Totals;
         pub fn lotskadi_same_edge(table: *const u16, words: usize, a: u32, b: u32) -> Answer;
         pub fn lotskadi_same_vertex(table: *const u16, words: usize, a: u32, b: u32) -> Answer;
         pub fn lotskadi_same_face(table: *const u16, words: usize, a: u32, b: u32) -> Answer;
@@ -134,6 +135,10 @@ pub fn ring_cut(table: &mut [u16], ring: &[u16]) -> u8 {
 
 pub fn report(table: &[u16]) -> Totals {
     unsafe { c::lotskadi_report(table.as_ptr(), table.len()) }
+}
+
+pub fn component_report(table: &[u16], tab: u32) -> Totals {
+    unsafe { c::lotskadi_component_report(table.as_ptr(), table.len(), tab) }
 }
 
 pub fn component_marks(table: &[u16], out: &mut [u16]) -> Answer {

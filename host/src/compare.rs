@@ -8,7 +8,8 @@ use crate::second::{self, Command, Dimension, Part, Plan, Tab};
 use std::fmt::Debug;
 
 /// What was met: how often each refusal, 0 for what was accepted; rings that were cut, and rounds; plans with handles,
-/// and plans of which some pieces are lifted and others, of one tab, are not.
+/// and plans of which some pieces are lifted and others, of one tab, are not; rings in a flat piece beside one with
+/// handles.
 #[derive(Default)]
 pub struct Met {
     pub refusals: [u64; 17],
@@ -18,6 +19,7 @@ pub struct Met {
     pub longest_round: usize,
     pub with_handles: u64,
     pub partly_lifted: u64,
+    pub rings_beside_handles: u64,
     /// Runs that went as their tape's needs said.
     pub foretold: u64,
 }
@@ -150,6 +152,37 @@ impl Lent {
         met.note(expected.number);
         met.with_handles += u64::from(expected.handles > 0);
         met.partly_lifted += u64::from(0 < expected.lifts && expected.lifts < expected.pieces);
+    }
+
+    /// The report of one tab's piece.
+    pub fn component_report(&self, met: &mut Met, tab: Tab) -> Totals {
+        let expected = match self.question_fault(&[tab]) {
+            0 => totals(&self.plan().piece_alone(tab)),
+            number => Totals { number, ..Totals::default() },
+        };
+        let answer = self.ask("a piece's report", |words| binding::component_report(words, tab));
+        assert_eq!(answer, expected, "report of the piece of {tab} in {:?}", &self.words[..]);
+        met.note(answer.number);
+        answer
+    }
+
+    /// The reports of all pieces, each by its smallest tab, add up to the plan's.
+    pub fn component_reports(&self, met: &mut Met) {
+        let plan = self.plan();
+        let mut sum = Totals { number: self.fault(), ..Totals::default() };
+        for piece in plan.parts(Part::Piece) {
+            let t = self.component_report(met, *piece.first().expect("a piece has a tab"));
+            assert_eq!(t.cells + t.ties + t.gaps + 2 * t.handles, 2 + t.tabs, "Euler's formula of a piece");
+            sum.tabs += t.tabs;
+            sum.ties += t.ties;
+            sum.cells += t.cells;
+            sum.gaps += t.gaps;
+            sum.pieces += t.pieces;
+            sum.characteristic += t.characteristic;
+            sum.handles += t.handles;
+            sum.lifts += t.lifts;
+        }
+        assert_eq!(binding::report(&self.words), sum, "the pieces of {:?}", &self.words[..]);
     }
 
     pub fn same(&self, met: &mut Met, part: Part, a: Tab, b: Tab) {

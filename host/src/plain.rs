@@ -55,10 +55,10 @@ fn gap_step(table: &[u16], tab: u16) -> u16 {
     table[at(table[at(tab) + 1]) + 3]
 }
 
-fn mark_orbit(table: &[u16], step: impl Fn(&[u16], u16) -> u16, tab: u16, marks: &mut [u16]) {
+fn mark_orbit(table: &[u16], step: impl Fn(&[u16], u16) -> u16, tab: u16, value: u16, marks: &mut [u16]) {
     let mut x = tab;
     loop {
-        marks[x as usize - 1] = tab;
+        marks[x as usize - 1] = value;
         x = step(table, x);
         if x == tab {
             return;
@@ -71,16 +71,42 @@ fn mark_orbits(table: &[u16], step: impl Fn(&[u16], u16) -> u16 + Copy, marks: &
     let mut count = 0;
     for tab in 1..=(table.len() / 4) as u16 {
         if table[at(tab)] != 0 && marks[tab as usize - 1] == 0 {
-            mark_orbit(table, step, tab, marks);
+            mark_orbit(table, step, tab, tab, marks);
             count += 1;
         }
     }
     count
 }
 
-fn count_orbits(table: &[u16], step: impl Fn(&[u16], u16) -> u16 + Copy) -> u32 {
-    let mut marks = [0; 4096];
-    mark_orbits(table, step, &mut marks)
+/// The orbits of the tabs that are marked with `value`, and with the next number afterwards.
+fn count_orbits(table: &[u16], step: impl Fn(&[u16], u16) -> u16 + Copy, value: u16, marks: &mut [u16]) -> u32 {
+    let mut count = 0;
+    for tab in 1..=(table.len() / 4) as u16 {
+        if marks[tab as usize - 1] == value {
+            mark_orbit(table, step, tab, value + 1, marks);
+            count += 1;
+        }
+    }
+    count
+}
+
+/// Marks the piece of a tab; how many tabs it has.
+fn flood(table: &[u16], tab: u16, marks: &mut [u16], queue: &mut [u16]) -> usize {
+    marks[tab as usize - 1] = tab;
+    queue[0] = tab;
+    let (mut head, mut tail) = (0, 1);
+    while head < tail {
+        let row = at(queue[head]);
+        head += 1;
+        for next in [table[row], table[row + 2]] {
+            if marks[next as usize - 1] == 0 {
+                marks[next as usize - 1] = tab;
+                queue[tail] = next;
+                tail += 1;
+            }
+        }
+    }
+    tail
 }
 
 /// How many pieces there are, and how many of them have at least two tabs.
@@ -93,38 +119,57 @@ fn count_pieces(table: &[u16]) -> (u32, u32) {
             continue;
         }
         pieces += 1;
-        marks[tab as usize - 1] = tab;
-        queue[0] = tab;
-        let (mut head, mut tail) = (0, 1);
-        while head < tail {
-            let row = at(queue[head]);
-            head += 1;
-            for next in [table[row], table[row + 2]] {
-                if marks[next as usize - 1] == 0 {
-                    marks[next as usize - 1] = tab;
-                    queue[tail] = next;
-                    tail += 1;
-                }
-            }
-        }
-        lifts += (tail >= 2) as u32;
+        lifts += (flood(table, tab, &mut marks, &mut queue) >= 2) as u32;
     }
     (pieces, lifts)
 }
 
-fn counts(table: &[u16]) -> Totals {
-    let tabs = table.chunks_exact(4).filter(|row| row[0] != 0).count() as u32;
-    let (ties, cells, gaps) =
-        (count_orbits(table, tie_step), count_orbits(table, cell_step), count_orbits(table, gap_step));
-    let (pieces, lifts) = count_pieces(table);
+/// The numbers of the tabs that are marked with `value`.
+fn marked_counts(table: &[u16], marks: &mut [u16], value: u16, tabs: u32, pieces: u32, lifts: u32) -> Totals {
+    let ties = count_orbits(table, tie_step, value, marks);
+    let cells = count_orbits(table, cell_step, value + 1, marks);
+    let gaps = count_orbits(table, gap_step, value + 2, marks);
     let characteristic = cells as i32 + ties as i32 + gaps as i32 - tabs as i32;
     let handles = ((2 * pieces as i32 - characteristic) / 2) as u32;
     Totals { number: 0, tabs, ties, cells, gaps, pieces, characteristic, handles, lifts }
 }
 
+fn counts(table: &[u16]) -> Totals {
+    let (pieces, lifts) = count_pieces(table);
+    let mut marks = [0u16; 4096];
+    let mut tabs = 0;
+    for (row, mark) in table.chunks_exact(4).zip(&mut marks) {
+        if row[0] != 0 {
+            *mark = 1;
+            tabs += 1;
+        }
+    }
+    marked_counts(table, &mut marks, 1, tabs, pieces, lifts)
+}
+
+fn piece_counts(table: &[u16], tab: u16) -> Totals {
+    let (mut marks, mut queue) = ([0u16; 4096], [0u16; 4096]);
+    let tabs = flood(table, tab, &mut marks, &mut queue) as u32;
+    marked_counts(table, &mut marks, tab, tabs, 1, (tabs >= 2) as u32)
+}
+
 pub fn report(table: &[u16]) -> Totals {
     match table_fault(table) {
         0 => counts(table),
+        number => Totals { number, ..Totals::default() },
+    }
+}
+
+fn question_fault(table: &[u16], tab: u16) -> u8 {
+    match table_fault(table) {
+        0 => presence(table, &[tab]),
+        fault => fault,
+    }
+}
+
+pub fn piece_report(table: &[u16], tab: u16) -> Totals {
+    match question_fault(table, tab) {
+        0 => piece_counts(table, tab),
         number => Totals { number, ..Totals::default() },
     }
 }
@@ -151,13 +196,9 @@ fn write_gap(table: &[u16], tab: u16, out: &mut [u16]) -> Answer {
 }
 
 pub fn gap_round(table: &[u16], tab: u16, out: &mut [u16]) -> Answer {
-    let number = match table_fault(table) {
-        0 => presence(table, &[tab]),
-        fault => fault,
-    };
-    match number {
+    match question_fault(table, tab) {
         0 => write_gap(table, tab, out),
-        _ => Answer { number, ..Answer::default() },
+        number => Answer { number, ..Answer::default() },
     }
 }
 
@@ -278,7 +319,7 @@ fn mark_firsts(table: &[u16], step: impl Fn(&[u16], u16) -> u16 + Copy, ring: &[
     let mut apart = true;
     for pair in ring.chunks_exact(2) {
         if marks[pair[0] as usize - 1] == 0 {
-            mark_orbit(table, step, pair[0], marks);
+            mark_orbit(table, step, pair[0], pair[0], marks);
         } else {
             apart = false;
         }

@@ -105,6 +105,18 @@ impl Grid {
     }
 }
 
+/// Two plans on one table: the tabs of the second are numbered on behind those of the first.
+pub fn beside(first: &Plan, second: &Plan, capacity: usize) -> Plan {
+    let offset = first.tie.keys().last().copied().unwrap_or(0);
+    let both = |a: &Map, b: &Map| -> Map {
+        let behind = b.iter().map(|(t, next)| (t + offset, next + offset));
+        a.iter().map(|(&t, &next)| (t, next)).chain(behind).collect()
+    };
+    let plan = Plan { capacity, tie: both(&first.tie, &second.tie), cell: both(&first.cell, &second.cell) };
+    assert!(plan.tie.keys().last().is_none_or(|&t| t as usize <= capacity), "room for both");
+    plan
+}
+
 /// All tabs in one tie and one cell, which goes round the same way or the other.
 pub fn one_orbit(tabs: usize, capacity: usize, other_way: bool) -> Plan {
     let mut plan = Plan::empty(capacity);

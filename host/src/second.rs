@@ -209,6 +209,13 @@ impl Plan {
         Report { tabs, ties, cells, gaps, pieces, characteristic, handles, lifts }
     }
 
+    /// The plan of the tabs in one piece, and no others.
+    pub fn piece_alone(&self, tab: Tab) -> Plan {
+        let piece = BTreeSet::from_iter(self.part(Part::Piece, tab));
+        let alone = |map: &Map| map.iter().filter(|(t, _)| piece.contains(t)).map(|(&t, &next)| (t, next)).collect();
+        Plan { capacity: self.capacity, tie: alone(&self.tie), cell: alone(&self.cell) }
+    }
+
     /// For each number the smallest tab of its piece, 0 where there is none.
     pub fn marks(&self) -> Vec<u16> {
         let mut marks = vec![0; self.capacity];

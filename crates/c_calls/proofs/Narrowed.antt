@@ -8,17 +8,19 @@ use native.Mathlib.Omega.{arith}
 use lib.Dec.{leb, eqb}
 use borrow.Author.Tests.{eqb-true, eqb-false, leb-true, leb-false, le-leb, lt-leb}
 use Rattle.hypermap.specs.Lists.{all}
+use Rattle.hypermap.specs.Hypermap.{componentAt}
 use Rattle.hypermap.proofs.Basics.Bools.{byCases, andLeft, andRight}
 use Rattle.table.specs.Refusals.{offTheTable, orElse, unless}
-use Rattle.table.specs.Layout.{Table, capacity, isNumber}
+use Rattle.table.specs.Layout.{Table, capacity, isNumber, hypermapOf}
 use Rattle.table.specs.Commands.{Command, puts, takesOut, joins, cuts, presenceFault, commandOn}
 use Rattle.table.specs.declared.Orbit.{Orbit}
 use Rattle.table.proofs.Faults.{passed, fitting, refusedFirst, refused}
 use Rattle.parts.specs.declared.Part.{Part}
 use Rattle.kernel.specs.Calls.{maxCapacity, tableFault, callFault, callLeaves, questionFault, sameAnswer}
-use Rattle.kernel.specs.Calls.{roundOf, roundAnswer, roundLeaves}
+use Rattle.kernel.specs.Calls.{componentReportOf, roundOf, roundAnswer, roundLeaves}
 use Rattle.kernel.specs.declared.Answer.{Answer}
-use Rattle.kernel.proofs.Answering.{refusedAnswer, listFirst}
+use Rattle.kernel.specs.declared.Totals.{Totals}
+use Rattle.kernel.proofs.Answering.{refusedAnswer, refusedReport, listFirst}
 use Rattle.kernel.proofs.Judging.{tablePassed}
 use Rattle.c_calls.specs.Narrowing.{narrowed}
 
@@ -137,6 +139,16 @@ narrowedCall w v c d r e h =
 questionStops : (w : Table) (xs : List ℕ) (n : ℕ) → (n ≡ 0 → ⊥) → n ≡ numberFault w xs → n ≡ questionFault w xs
 unfolding numberFault questionFault presenceFault
 questionStops w xs n z e = e ∙ sym (simp (inTurn, stopsAt _ (λ q. z (e ∙ q))))
+
+pub narrowedReport :
+    (w : Table) (x i : ℕ) (r : Totals) → i ≡ narrowed x → r ≡ componentReportOf w i → r ≡ componentReportOf w x
+narrowedReport w x i r e h =
+    eitherWay w (x ∷ [])
+    (λ s. let t : x ≡ i = cc in rw t h)
+    (λ n z f g.
+    let u = refusedReport _ (componentAt (hypermapOf w) i) n (questionStops w (i ∷ []) n z (cc)) z in
+    let v = refusedReport _ (componentAt (hypermapOf w) x) n (questionStops w (x ∷ []) n z g) z in
+    h ∙ sym u ∙ v)
 
 pub narrowedSame :
     (w : Table) (p : Part) (a b i j : ℕ) (r : Answer) → i ≡ narrowed a → j ≡ narrowed b → r ≡ sameAnswer w p i j →

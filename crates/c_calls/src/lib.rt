@@ -7,8 +7,8 @@ ghost use Rattle.table.specs.Commands.{puts, takesOut, joins, cuts};
 ghost use Rattle.table.specs.declared.Orbit.the-variants as orbit;
 ghost use Rattle.parts.specs.declared.Part.the-variants as part;
 ghost use Rattle.tape.specs.Runs.{toldOf};
-ghost use Rattle.kernel.specs.Calls.{callFault, callLeaves, ringCallFault, ringCallLeaves, reportOf, sameAnswer};
-ghost use Rattle.kernel.specs.Calls.{roundAnswer, roundLeaves, marksAnswer, marksLeaves};
+ghost use Rattle.kernel.specs.Calls.{callFault, callLeaves, ringCallFault, ringCallLeaves, reportOf};
+ghost use Rattle.kernel.specs.Calls.{componentReportOf, sameAnswer, roundAnswer, roundLeaves, marksAnswer, marksLeaves};
 ghost use Rattle.kernel.specs.Tapes.{playOutcome, tapeAnswer, tapeLeaves, screenFault, screenLeaves};
 ghost use Rattle.kernel.specs.TapeNeeds.{needsAnswer};
 ghost use Rattle.c_calls.specs.Narrowing.{narrowed};
@@ -92,6 +92,13 @@ pub extern "C" fn lotskadi_report(table: &[u16]) -> Totals
     ensures { λ r. ⌜ r ≡ reportOf (now (table .entry)) ⌝ }
 {
     kernel::report(table)
+}
+
+#[no_mangle]
+pub extern "C" fn lotskadi_component_report(table: &[u16], x: u32) -> Totals
+    ensures { λ r. ⌜ r ≡ componentReportOf (now (table .entry)) x ⌝ }
+{
+    kernel::component_report(table, narrow(x))
 }
 
 #[no_mangle]

@@ -7,7 +7,7 @@ use Prim.Native.Nat.{ℕ, zero, suc, _+_, _*_, _≤_, _<_}
 use lib.IntN.{ℤ, pos, _+ℤ_, _-ℤ_, _*ℤ_}
 use lib.Signed.{_≤ℤ_}
 use lib.ListN.{length, getD}
-use Rattle.hypermap.specs.Lists.{among, distinct, sumOf}
+use Rattle.hypermap.specs.Lists.{among, distinct, sumOf, sumOfIntegers}
 use Rattle.hypermap.specs.Hypermap.{Dimension, Hypermap, isDart, isHypermap, Kind, of, step, orbitOf, componentOf}
 use Rattle.hypermap.specs.Hypermap.{sameOrbit, sameComponent, isLeastIn, leastDarts, orbits, components}
 use Rattle.hypermap.specs.Hypermap.{allOrbits}
@@ -119,10 +119,18 @@ JoinLaw =
     (genus (change k a b m) ≡ genus m ↔ keepsGenus m k a b ≡ true) ×
     (keepsGenus m k a b ≡ false → genus (change k a b m) ≡ suc (genus m))
 
+-- a set of darts that holds with a dart each one that it is linked with; so a component is
+pub record Closed (m : Hypermap) (p : ℕ → Bool) : Type 0 where
+  pub forth : (k : Dimension) (x : ℕ) → isDart m x ≡ true → p x ≡ true → p (m .next k x) ≡ true
+  pub back : (k : Dimension) (x : ℕ) → isDart m x ≡ true → p x ≡ true → p (m .back k x) ≡ true
+
 -- LAW 9. Each component is a connected hypermap of its own, with Euler's formula (Corollary 2.5) for any genus, and
 -- their numbers add up
+abbrev pub componentRoots : Hypermap → List ℕ
+componentRoots m = leastDarts m (componentOf m)
+
 abbrev pub sumOverComponents : Hypermap → (Hypermap → ℕ) → ℕ
-sumOverComponents m f = sumOf (λ x. f (componentAt m x)) (leastDarts m (componentOf m))
+sumOverComponents m f = sumOf (λ x. f (componentAt m x)) (componentRoots m)
 
 pub record IsConnected (m : Hypermap) : Type 0 where
   pub hypermap : isHypermap m ≡ true
@@ -132,6 +140,8 @@ pub record IsConnected (m : Hypermap) : Type 0 where
 pub record AddsUp (m : Hypermap) : Type 0 where
   pub darts : sumOverComponents m (λ c. length (c .darts)) ≡ length (m .darts)
   pub orbits : (o : Kind) → sumOverComponents m (λ c. orbits c o) ≡ orbits m o
+  pub components : sumOverComponents m components ≡ components m
+  pub characteristic : sumOfIntegers (λ x. characteristic (componentAt m x)) (componentRoots m) ≡ characteristic m
   pub genus : sumOverComponents m genus ≡ genus m
 
 abbrev pub ComponentGenusLaw : Type 0

@@ -8,6 +8,7 @@ use native.Mathlib.Omega.{arith}
 use lib.Dec.{eqb, leb}
 use lib.ListN.{length, drop}
 use borrow.Author.Tests.{eqb-true, eqb-false, eq-eqb, ne-eqb, le-leb, lt-leb}
+use Rattle.hypermap.specs.Hypermap.{Hypermap}
 use Rattle.hypermap.proofs.Basics.Bools.{byCases}
 use Rattle.table.specs.Refusals.{orElse, unless, shortRoom}
 use Rattle.table.specs.Layout.{Table}
@@ -16,7 +17,7 @@ use Rattle.table.proofs.Faults.{passed, refusedFirst, refusedSecond, refused}
 use Rattle.parts.specs.Counts.{countsOf}
 use Rattle.parts.specs.declared.Counts.{Counts}
 use Rattle.rings.specs.Rings.{linksOf, ringFault, cutAlong, ringLeaves}
-use Rattle.kernel.specs.Calls.{refusedTotals, totalsOf, reportOf, ringCallFault, ringCallLeaves}
+use Rattle.kernel.specs.Calls.{refusedTotals, totalsOf, reportOn, ringCallFault, ringCallLeaves}
 use Rattle.kernel.specs.Calls.{tableFault, callFault, callLeaves, questionFault, refusalOf, answer, listFault}
 use Rattle.kernel.specs.Calls.{listLeaves, listAnswer}
 use Rattle.kernel.specs.declared.Answer.{Answer}
@@ -84,14 +85,14 @@ unfolding answer
 answerNumber n t k = byCases (eqb n 0) (λ e. rw e (sym (eqb-true n 0 e))) (λ e. rw e)
 
 -- a refused report, and one that is not
-pub refusedReport : (w : Table) (f : ℕ) → f ≡ tableFault w → (f ≡ 0 → ⊥) → refusedTotals f ≡ reportOf w
-unfolding reportOf
-refusedReport w f e z = rw (ne-eqb (tableFault w) 0 (λ q. z (e ∙ q))) (ap refusedTotals e)
+pub refusedReport : (n : ℕ) (m : Hypermap) (f : ℕ) → f ≡ n → (f ≡ 0 → ⊥) → refusedTotals f ≡ reportOn n m
+unfolding reportOn
+refusedReport n m f e z = rw (ne-eqb n 0 (λ q. z (e ∙ q))) (ap refusedTotals e)
 
 pub givenReport :
-    (w : Table) (f : ℕ) (c : Counts) → f ≡ tableFault w → f ≡ 0 → c ≡ countsOf w → totalsOf c ≡ reportOf w
-unfolding reportOf
-givenReport w f c e z q = rw (eq-eqb (tableFault w) 0 (sym e ∙ z)) (ap totalsOf q)
+    (n : ℕ) (m : Hypermap) (f : ℕ) (c : Counts) → f ≡ n → f ≡ 0 → c ≡ countsOf m → totalsOf c ≡ reportOn n m
+unfolding reportOn
+givenReport n m f c e z q = rw (eq-eqb n 0 (sym e ∙ z)) (ap totalsOf q)
 
 -- LISTS: what an accepted one has passed
 pub listPassed : (n : ℕ) (xs o : List ℕ) → listAnswer n xs o .number ≡ 0 → (n ≡ 0) × (listFault n xs o ≡ 0)

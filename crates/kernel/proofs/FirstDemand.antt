@@ -10,6 +10,7 @@ use lib.Dec.{eqb}
 use lib.ListN.{length, length-take, length-drop}
 use borrow.Author.Tests.{eq-eqb, ne-eqb}
 use Rattle.hypermap.specs.Lists.{among}
+use Rattle.hypermap.specs.Hypermap.{Hypermap}
 use Rattle.hypermap.proofs.Basics.Bools.{byCases}
 use Rattle.table.specs.Refusals.{shortRoom}
 use Rattle.table.specs.Layout.{Table, wordsPerDart}
@@ -22,15 +23,14 @@ use Rattle.tape.specs.Tapes.{contentsOf}
 use Rattle.tape.specs.Runs.{stopped}
 use Rattle.tape.specs.Laws.{IsRun}
 use Rattle.tape.proofs.Running.{runLaw}
-use Rattle.kernel.specs.Calls.{tableFault, callFault, callLeaves, ringCallFault, ringCallLeaves, reportOf}
-use Rattle.kernel.specs.Calls.{refusedTotals, questionFault, answer, sameAnswer, listFault, listLeaves}
+use Rattle.kernel.specs.Calls.{callFault, callLeaves, ringCallFault, ringCallLeaves, reportOn}
+use Rattle.kernel.specs.Calls.{questionFault, answer, sameAnswer, listFault, listLeaves}
 use Rattle.kernel.specs.Calls.{listAnswer, lookOf}
 use Rattle.kernel.specs.Tapes.{tapeFault, playFault, playOutcome, screenFault, screenLeaves}
-use Rattle.kernel.specs.Demands.{Refuses, RefusesAnswer, tableNumbers}
-use Rattle.kernel.specs.Demands.{FirstDemand}
+use Rattle.kernel.specs.Demands.{Refuses, RefusesAnswer, RefusesReport, FirstDemand}
 use Rattle.kernel.proofs.Answering.{answerNumber}
 use Rattle.kernel.proofs.Judging.{dartsReady}
-use Rattle.kernel.proofs.RefusalNumbers.{One, none, unlessOne, orElseOne, tableOne, presenceOne, commandOne}
+use Rattle.kernel.proofs.RefusalNumbers.{One, unlessOne, orElseOne, tableOne, presenceOne, commandOne}
 use Rattle.kernel.proofs.RefusalNumbers.{ringOne, playOne, runOne}
 
 -- WHAT A REFUSED CALL LEAVES AND ANSWERS
@@ -53,16 +53,12 @@ listRefuses n xs o f m = (
   λ z. rw (ne-eqb (listFault n xs o) 0 (λ e. z (answerNumber (listFault n xs o) _ _ ∙ e))),
 )
 
--- THE REPORT
-reportOne : (w : Table) → One (reportOf w .number) tableNumbers
-unfolding reportOf among
-reportOne w =
-    byCases (eqb (tableFault w) 0) (λ e. rw e none)
-    (λ e. rw e (tableOne w refl refl))
-
-reportZeros : (w : Table) → (reportOf w .number ≡ 0 → ⊥) → reportOf w ≡ refusedTotals (reportOf w .number)
-unfolding reportOf
-reportZeros w = byCases (eqb (tableFault w) 0) (λ e. rw e (λ z. absurd (z refl))) (λ e. rw e (λ z. refl))
+reportRefuses : (n : ℕ) (m : Hypermap) {ns : List ℕ} → One n ns → RefusesReport (reportOn n m) ns
+unfolding reportOn
+reportRefuses n m f =
+    byCases (eqb n 0)
+    (λ e. rw e (record { one = λ z. absurd (z refl); zeros = λ z. absurd (z refl) }))
+    (λ e. rw e (record { one = f .one; zeros = λ z. refl }))
 
 -- A LOOK
 fourWords : (w : Table) (x : ℕ) → questionFault w (x ∷ x ∷ []) ≡ 0 → length (lookOf w x) ≡ wordsPerDart
@@ -98,8 +94,8 @@ unfolding among callLeaves ringCallLeaves questionFault sameAnswer screenFault t
 firstDemand = record {
   commands = λ w c. refuses (callFault w c) (commandOn w c) w (commandOne w c);
   rings = λ w ws. refuses (ringCallFault w ws) (cutAlong (linksOf ws) w) w (ringOne w ws);
-  report = λ w. reportOne w .one;
-  reportZeros = reportZeros;
+  report = λ w. reportRefuses _ _ (tableOne w refl refl);
+  componentReport = λ w x. reportRefuses _ _ (orElseOne (tableOne w refl refl) (presenceOne w _ refl refl));
   same = λ w p a b. answerRefuses _ _ _ (orElseOne (tableOne w refl refl) (presenceOne w _ refl refl));
   round = λ w o x out. listRefuses _ _ _ (orElseOne (tableOne w refl refl) (presenceOne w _ refl refl)) refl;
   marks = λ w out. listRefuses _ _ _ (tableOne w refl refl) refl;

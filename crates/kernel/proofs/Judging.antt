@@ -2,24 +2,27 @@
 -- or a cut that passes all stages is not refused. Assumes nothing.
 use mathlib.Core.Path.{_≡_, sym, _∙_}
 use mathlib.Core.Bool.{true}
-use mathlib.Core.List.{[], _∷_}
+use mathlib.Core.List.{List, [], _∷_}
 use Prim.Native.Nat.{ℕ, _*_, _%_, _≤_}
 use native.Mathlib.Omega.{arith}
 use lib.Dec.{eqb, leb}
 use lib.ListN.{length}
 use borrow.Author.Tests.{eqb-true, eq-eqb, leb-true}
-use Rattle.hypermap.specs.Hypermap.{componentOf, components, characteristic, genus}
+use Rattle.hypermap.specs.Lists.{all}
+use Rattle.hypermap.specs.Hypermap.{Hypermap, componentOf, edges, vertices, faces, components, characteristic, genus}
+use Rattle.hypermap.specs.Hypermap.{componentAt}
 use Rattle.hypermap.proofs.Basics.Bools.{byCases, andLeft, andRight}
 use Rattle.table.specs.Refusals.{wrongSize, bentTable, orElse, unless}
 use Rattle.table.specs.Layout.{Table, wordsPerDart, capacity, isPresent, isSound, hypermapOf}
 use Rattle.table.specs.Commands.{Command, presenceFault, commandFault, commandOn, leaves}
-use Rattle.table.proofs.Faults.{passed, fitting, onePresent, bothPresent}
+use Rattle.table.proofs.Faults.{passed, fitting, onePresent, bothPresent, presentFits}
 use Rattle.parts.specs.Counts.{lifts, countsOf}
 use Rattle.parts.specs.Inner.{CountedAtBoth}
 use Rattle.parts.specs.Marks.{componentMarks}
 use Rattle.parts.proofs.Marking.{marksLength}
-use Rattle.kernel.specs.Calls.{maxCapacity, sizeFits, tableFault, callFault, callLeaves, reportOf}
-use Rattle.kernel.specs.Calls.{questionFault}
+use Rattle.kernel.specs.Calls.{maxCapacity, sizeFits, tableFault, callFault, callLeaves, reportOn, reportOf}
+use Rattle.kernel.specs.Calls.{questionFault, componentReportOf}
+use Rattle.kernel.specs.declared.Totals.{Totals}
 
 -- THE TABLE
 pub record Passed (w : Table) : Type 0 where
@@ -57,23 +60,42 @@ unfolding sizeFits
 sizeStays v w e t = rw e t
 
 -- A REPORT
-pub record Reported (w : Table) : Type 0 where
-  pub number : reportOf w .number ≡ 0
-  pub components : reportOf w .components ≡ components (hypermapOf w)
-  pub characteristic : reportOf w .characteristic ≡ characteristic (hypermapOf w)
-  pub genus : reportOf w .genus ≡ genus (hypermapOf w)
-  pub lifts : reportOf w .lifts ≡ lifts (hypermapOf w)
+pub record Reported (t : Totals) (m : Hypermap) : Type 0 where
+  pub number : t .number ≡ 0
+  pub darts : t .darts ≡ length (m .darts)
+  pub edges : t .edges ≡ edges m
+  pub vertices : t .vertices ≡ vertices m
+  pub faces : t .faces ≡ faces m
+  pub components : t .components ≡ components m
+  pub characteristic : t .characteristic ≡ characteristic m
+  pub genus : t .genus ≡ genus m
+  pub lifts : t .lifts ≡ lifts m
 
-pub reported : (w : Table) → tableFault w ≡ 0 → Reported w
-unfolding reportOf countsOf
-reported w e =
-    let t = eq-eqb (tableFault w) 0 e in
-    record { number = rw t; components = rw t; characteristic = rw t; genus = rw t; lifts = rw t }
+pub reported : (n : ℕ) (m : Hypermap) → n ≡ 0 → Reported (reportOn n m) m
+unfolding reportOn countsOf
+reported n m e =
+    let t = eq-eqb n 0 e in
+    record {
+      number = rw t;
+      darts = rw t;
+      edges = rw t;
+      vertices = rw t;
+      faces = rw t;
+      components = rw t;
+      characteristic = rw t;
+      genus = rw t;
+      lifts = rw t;
+    }
+
+pub reportNumber : (n : ℕ) (m : Hypermap) → reportOn n m .number ≡ n
+unfolding reportOn
+reportNumber n m = byCases (eqb n 0) (λ t. rw t (sym (eqb-true n 0 t))) (λ t. rw t)
+
+pub planReported : (w : Table) → tableFault w ≡ 0 → Reported (reportOf w) (hypermapOf w)
+planReported w e = reported (tableFault w) (hypermapOf w) e
 
 pub reportPassed : (w : Table) → reportOf w .number ≡ 0 → tableFault w ≡ 0
-unfolding reportOf
-reportPassed w e =
-    byCases (eqb (tableFault w) 0) (λ t. eqb-true (tableFault w) 0 t) (λ t. rw t at e)
+reportPassed w e = sym (reportNumber (tableFault w) (hypermapOf w)) ∙ e
 
 -- A COMMAND
 pub callPassed : (w : Table) (c : Command) → callFault w c ≡ 0 → (tableFault w ≡ 0) × (commandFault w c ≡ 0)
@@ -98,12 +120,29 @@ pub record Ready (w : Table) (x : ℕ) : Type 0 where
   pub room : capacity w ≤ maxCapacity
   pub here : isPresent w x ≡ true
 
+pub questionTable : (w : Table) (xs : List ℕ) → questionFault w xs ≡ 0 → tableFault w ≡ 0
+unfolding questionFault
+questionTable w xs e = passed (tableFault w) (presenceFault w xs) e .0
+
 pub dartReady : (w : Table) (x : ℕ) → questionFault w (x ∷ []) ≡ 0 → Ready w x
 unfolding questionFault
 dartReady w x e =
     let p = passed (tableFault w) (presenceFault w (x ∷ [])) e in
     let t = tablePassed w (p .0) in
     record { sound = t .sound; room = t .room; here = onePresent w x (p .1) }
+
+pub dartFits : (w : Table) (x : ℕ) → tableFault w ≡ 0 → isPresent w x ≡ true → questionFault w (x ∷ []) ≡ 0
+unfolding questionFault orElse all
+dartFits w x e p = rw (e, presentFits w (x ∷ []) (rw p))
+
+-- a report of the component of x
+pub componentPassed : (w : Table) (x : ℕ) → componentReportOf w x .number ≡ 0 → questionFault w (x ∷ []) ≡ 0
+componentPassed w x e = sym (reportNumber (questionFault w (x ∷ [])) (componentAt (hypermapOf w) x)) ∙ e
+
+pub componentReported :
+    (w : Table) (x : ℕ) → questionFault w (x ∷ []) ≡ 0 →
+    Reported (componentReportOf w x) (componentAt (hypermapOf w) x)
+componentReported w x e = reported (questionFault w (x ∷ [])) (componentAt (hypermapOf w) x) e
 
 pub dartsReady : (w : Table) (a b : ℕ) → questionFault w (a ∷ b ∷ []) ≡ 0 → CountedAtBoth w a b
 unfolding questionFault

@@ -12,3 +12,4 @@ pub mod Demands
 pub mod TapeNeeds
 pub mod Lifts
 pub mod Rounds
+pub mod ComponentReports

@@ -12,7 +12,7 @@ use Rattle.rings.specs.Rings.{linksOf, isList, pairsTogether, pathCloses, condi
 use Rattle.tape.specs.Tapes.{tapeBytes}
 use Rattle.writer.specs.Canonical.{orbitJoins, joinsOver, putsOf, tapeOf}
 use Rattle.kernel.specs.Calls.{sizeFits, tableFault, callFault, callLeaves, ringCallFault, ringCallLeaves}
-use Rattle.kernel.specs.Calls.{reportOf}
+use Rattle.kernel.specs.Calls.{reportOn}
 use Rattle.kernel.specs.Tapes.{emptyTable}
 use Rattle.kernel.specs.Plans.{PlansLaw, sameNumbers, facesFit, rowFits, allFit, rows}
 
@@ -20,7 +20,7 @@ pub plansLaw : PlansLaw
 unfolding all among keep leastOf walkFrom spread spreadBy allLinks noTwo lastOf continuity orElse unless upFrom wordAt
     isPresent isAbsent isLinked dartFits isSound withWord withAll swapped presenceFault isTogether leaves markOf marksOf
     countsOf linksOf isList pairsTogether pathCloses conditionFault ringFault cutAlong tapeBytes orbitJoins joinsOver
-    putsOf tapeOf sizeFits tableFault callFault callLeaves ringCallFault ringCallLeaves reportOf emptyTable sameNumbers
+    putsOf tapeOf sizeFits tableFault callFault callLeaves ringCallFault ringCallLeaves reportOn emptyTable sameNumbers
     facesFit
     rowFits allFit rows
 plansLaw = refl

@@ -9,7 +9,7 @@ use Prim.Native.Nat.{ℕ, _≤_}
 use native.Mathlib.Omega.{arith}
 use lib.ListN.{length, replicate, length-replicate}
 use borrow.Author.Tests.{eq-eqb}
-use Rattle.hypermap.specs.Hypermap.{Dimension, edge, vertex, of, face, isDart, isHypermap}
+use Rattle.hypermap.specs.Hypermap.{Dimension, edge, vertex, of, face, isDart, isHypermap, componentAt}
 use Rattle.hypermap.specs.Change.{change}
 use Rattle.hypermap.proofs.Laws.Orbits.{orbitLaw}
 use Rattle.hypermap.proofs.Laws.Components.{componentLaw}
@@ -23,7 +23,6 @@ use Rattle.table.proofs.OnlyTables.{tableLaw}
 use Rattle.table.proofs.Soundness.{memPresent, soundHypermap}
 use Rattle.table.proofs.Swaps.{swapLaw}
 use Rattle.table.proofs.Zeros.{zerosSound}
-use Rattle.parts.specs.Counts.{countsOf}
 use Rattle.parts.specs.Sharing.{isSame}
 use Rattle.parts.specs.declared.Part.{Part}
 use Rattle.parts.specs.declared.Part.the-variants.{Edge, Vertex, Face, Component}
@@ -41,7 +40,7 @@ use Rattle.kernel.proofs.Answering.{givenAnswer, answerNumber, givenRep
 use Rattle.kernel.proofs.Judging.{tablePassed, tableFits, sizeStays, wholeWords, reportPassed, callPassed}
 use Rattle.table.proofs.Accepting.{joinPassed, joinFits, cutPassed, cutFits}
 use Rattle.kernel.proofs.Judging.{callFits, acceptedLeaves}
-use Rattle.kernel.proofs.Judging.{dartReady, dartsReady}
+use Rattle.kernel.proofs.Judging.{componentPassed, dartReady, dartsReady}
 use Rattle.kernel.proofs.RingDemand.{ringPassed, ringFits, ringLeaves}
 use Rattle.kernel.proofs.Tapes.{played}
 
@@ -172,7 +171,10 @@ secondDemand = record {
       rw (ringLeaves w ws e) (acceptedCut w ws (tablePassed w (p .0) .sound) (p .1) .holds);
   same = same;
   round = round;
-  report = λ w e. sym (givenReport w (tableFault w) (countsOf w) refl (reportPassed w e) refl);
+  report = λ w e. sym (givenReport (tableFault w) (hypermapOf w) 0 _ (sym (reportPassed w e)) refl refl);
+  componentReport = λ w x e.
+      let z = componentPassed w x e in
+      sym (givenReport (questionFault w (x ∷ [])) (componentAt (hypermapOf w) x) 0 _ (sym z) refl refl);
   built = built;
   short = short;
   onlyTape = λ v w e f l t.

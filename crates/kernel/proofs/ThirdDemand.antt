@@ -25,7 +25,7 @@ use Rattle.table.proofs.Soundness.{memPresent, soundHypermap, dartsFew}
 use Rattle.table.proofs.Swaps.{swapLaw}
 use Rattle.kernel.specs.Calls.{tableFault, reportOf}
 use Rattle.kernel.specs.Demands.{GenusReported, GenusDemand, JoinsFreely, JoinDemand, ThirdDemand}
-use Rattle.kernel.proofs.Judging.{tablePassed, tableFits, sizeStays, reported, reportPassed, callPassed}
+use Rattle.kernel.proofs.Judging.{tablePassed, tableFits, sizeStays, planReported, reportPassed, callPassed}
 use Rattle.table.proofs.Accepting.{Joined, joinPassed}
 use Rattle.kernel.proofs.Judging.{acceptedLeaves}
 use Rattle.kernel.proofs.RingDemand.{ringDemand, componentRingDemand}
@@ -49,7 +49,7 @@ module _ (w : Table) (t : tableFault w ≡ 0) where
   genusReported : GenusReported w
   genusReported =
       let m = hypermapOf w in
-      let r = reported w t in
+      let r = planReported w t in
       record {
         half = rw (r .components, r .characteristic, r .genus)
             (ap (λ z. z -ℤ characteristic m)
@@ -103,16 +103,16 @@ module _ (w : Table) (k : Dimension) (a b : ℕ) (t : tableFault w ≡ 0) (j : J
 
   -- the genus that the reports give
   before : reportOf w .genus ≡ genus (hypermapOf w)
-  before = reported w t .genus
+  before = planReported w t .genus
 
   after : reportOf v .genus ≡ genus (change k a b (hypermapOf w))
-  after = reported v fits .genus ∙ sameGenus
+  after = planReported v fits .genus ∙ sameGenus
 
   joined :
       (reportOf v .number ≡ 0) × (reportOf v .genus ≡ reportOf w .genus ↔ JoinsFreely w k a b) ×
       ((JoinsFreely w k a b → ⊥) → reportOf v .genus ≡ suc (reportOf w .genus))
   joined = (
-    reported v fits .number,
+    planReported v fits .number,
     (λ e. freely .1 (law .0 .0 (sym after ∙ e ∙ before)), λ f. after ∙ law .0 .1 (freely .0 f) ∙ sym before),
     λ n. after ∙ law .1 (refuted _ (λ u. n (freely .1 u))) ∙ ap suc (sym before),
   )

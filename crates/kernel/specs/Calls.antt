@@ -6,7 +6,7 @@ use Prim.Native.Nat.{ℕ, _*_, _%_}
 use lib.Dec.{leb, eqb}
 use lib.IntN.{pos}
 use lib.ListN.{length, take, drop}
-use Rattle.hypermap.specs.Hypermap.{orbitOf}
+use Rattle.hypermap.specs.Hypermap.{Hypermap, orbitOf, componentAt}
 use Rattle.table.specs.Refusals.{wrongSize, bentTable, shortRoom, orElse, unless}
 use Rattle.table.specs.Layout.{Table, wordsPerDart, place, isSound, hypermapOf}
 use Rattle.table.specs.Commands.{Command, presenceFault, commandFault, commandOn, leaves}
@@ -45,7 +45,7 @@ ringCallFault w ws = orElse (tableFault w) (ringFault w ws)
 unfoldable pub ringCallLeaves : Table → (ring : List ℕ) → Table
 ringCallLeaves w ws = leaves (ringCallFault w ws) (cutAlong (linksOf ws) w) w
 
--- THE REPORT: the refusal and zeros, or 0 and the counts
+-- A REPORT: the refusal and zeros, or 0 and the counts of a hypermap
 abbrev pub refusedTotals : (number : ℕ) → Totals
 refusedTotals n =
     record {
@@ -74,12 +74,19 @@ totalsOf c =
       lifts = c .lifts;
     }
 
-unfoldable pub reportOf : Table → Totals
-reportOf w = cond (eqb (tableFault w) 0) (totalsOf (countsOf w)) (refusedTotals (tableFault w))
+unfoldable pub reportOn : (refusal : ℕ) → Hypermap → Totals
+reportOn n m = cond (eqb n 0) (totalsOf (countsOf m)) (refusedTotals n)
+
+abbrev pub reportOf : Table → Totals
+reportOf w = reportOn (tableFault w) (hypermapOf w)
 
 -- QUESTIONS about darts of the table
 unfoldable pub questionFault : Table → (named : List ℕ) → ℕ
 questionFault w xs = orElse (tableFault w) (presenceFault w xs)
+
+-- the report of one component by itself
+abbrev pub componentReportOf : Table → (x : ℕ) → Totals
+componentReportOf w x = reportOn (questionFault w (x ∷ [])) (componentAt (hypermapOf w) x)
 
 abbrev pub refusalOf : (number : ℕ) → Answer
 refusalOf n = record { number = n; yes = false; count = 0 }

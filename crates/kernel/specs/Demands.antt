@@ -10,7 +10,7 @@ use lib.Signed.{_≤ℤ_}
 use lib.ListN.{length, replicate, drop}
 use Rattle.hypermap.specs.Lists.{among}
 use Rattle.hypermap.specs.Hypermap.{Dimension, edge, vertex, Hypermap, isDart, isHypermap, of, step, faceNext}
-use Rattle.hypermap.specs.Hypermap.{sameOrbit, isPlanar, componentAt}
+use Rattle.hypermap.specs.Hypermap.{sameOrbit, componentAt}
 use Rattle.hypermap.specs.Change.{change, marking}
 use Rattle.hypermap.specs.Ring.{DoubleLink, breakAlong}
 use Rattle.hypermap.specs.Laws.{Reaches, Connects, IsOrbit}
@@ -35,10 +35,11 @@ use Rattle.writer.specs.Canonical.{tapeOf}
 use Rattle.tape.specs.Laws.{IsRun}
 use Rattle.writer.specs.Laws.{IsBuilt}
 use Rattle.kernel.specs.Calls.{tableFault, callFault, callLeaves, reportOf, totalsOf, refusedTotals}
-use Rattle.kernel.specs.Calls.{ringCallFault, ringCallLeaves, refusalOf, sameAnswer, roundOf, roundAnswer}
-use Rattle.kernel.specs.Calls.{roundLeaves, marksAnswer, marksLeaves, lookOf}
+use Rattle.kernel.specs.Calls.{ringCallFault, ringCallLeaves, componentReportOf, refusalOf, sameAnswer}
+use Rattle.kernel.specs.Calls.{roundOf, roundAnswer, roundLeaves, marksAnswer, marksLeaves, lookOf}
 use Rattle.kernel.specs.Tapes.{playFault, playOutcome, tapeAnswer, tapeLeaves, screenFault, screenLeaves}
 use Rattle.kernel.specs.declared.Answer.{Answer}
+use Rattle.kernel.specs.declared.Totals.{Totals}
 
 -- DEMAND 1. "Whoever calls, with any numbers, any tape and any words in the lent table, gets a reply": no call of
 -- src/lib.rt has a `requires`, and the checker has each of them return. "A call that doesn't fit gets one numbered
@@ -54,6 +55,11 @@ pub record Refuses (number : ℕ) (numbers before after : List ℕ) : Type 0 whe
 pub record RefusesAnswer (a : Answer) (numbers : List ℕ) : Type 0 where
   pub one : OneOf (a .number) numbers
   pub zeros : (a .number ≡ 0 → ⊥) → a ≡ refusalOf (a .number)
+
+-- and a refused report
+pub record RefusesReport (t : Totals) (numbers : List ℕ) : Type 0 where
+  pub one : OneOf (t .number) numbers
+  pub zeros : (t .number ≡ 0 → ⊥) → t ≡ refusedTotals (t .number)
 
 abbrev pub tableNumbers : List ℕ
 tableNumbers = wrongSize ∷ bentTable ∷ []
@@ -80,8 +86,8 @@ runNumbers =
 pub record FirstDemand : Type 0 where
   pub commands : (w : Table) (c : Command) → Refuses (callFault w c) (commandNumbers c) w (callLeaves w c)
   pub rings : (w : Table) (ring : List ℕ) → Refuses (ringCallFault w ring) ringNumbers w (ringCallLeaves w ring)
-  pub report : (w : Table) → OneOf (reportOf w .number) tableNumbers
-  pub reportZeros : (w : Table) → (reportOf w .number ≡ 0 → ⊥) → reportOf w ≡ refusedTotals (reportOf w .number)
+  pub report : (w : Table) → RefusesReport (reportOf w) tableNumbers
+  pub componentReport : (w : Table) (x : ℕ) → RefusesReport (componentReportOf w x) dartNumbers
   pub same : (w : Table) (p : Part) (a b : ℕ) → RefusesAnswer (sameAnswer w p a b) dartNumbers
   pub round :
       (w : Table) (o : Orbit) (x : ℕ) (out : List ℕ) →
@@ -159,7 +165,10 @@ pub record SecondDemand : Type 0 where
       (sameAnswer w p a b .yes ≡ true) ↔ Shares (hypermapOf w) p a b
   pub round :
       (w : Table) (o : Orbit) (x : ℕ) (out : List ℕ) → roundAnswer w o x out .number ≡ 0 → IsRound w o x out
-  pub report : (w : Table) → reportOf w .number ≡ 0 → reportOf w ≡ totalsOf (countsOf w)
+  pub report : (w : Table) → reportOf w .number ≡ 0 → reportOf w ≡ totalsOf (countsOf (hypermapOf w))
+  pub componentReport :
+      (w : Table) (x : ℕ) → componentReportOf w x .number ≡ 0 →
+      componentReportOf w x ≡ totalsOf (countsOf (componentAt (hypermapOf w) x))
   -- "A written tape, played on an empty table of the same size, builds the same plan": accepted whole, each of its
   -- commands counted; "At most 53,238 bytes"
   pub built : (w : Table) → tableFault w ≡ 0 → IsBuilt w (playOutcome (replicate (length w) 0) (tapeOf w))
@@ -194,6 +203,24 @@ JoinDemand =
     (reportOf (callLeaves w (joins k a b)) .genus ≡ reportOf w .genus ↔ JoinsFreely w k a b) ×
     ((JoinsFreely w k a b → ⊥) → reportOf (callLeaves w (joins k a b)) .genus ≡ suc (reportOf w .genus))
 
+-- "The ring guarantee shall need only that the ring's own piece is flat: it parts in two flat pieces and all other
+-- pieces keep their tabs and handles": flat by the report of its first tab's piece, before and after. Every other
+-- piece keeps its whole report
+pub record IsPartedByReports (w v : Table) (l : DoubleLink) (ls : List DoubleLink) : Type 0 where
+  pub parted : IsParted (hypermapOf w) (hypermapOf v) l ls
+  pub before : componentReportOf w (l .first) .number ≡ 0
+  pub first : (componentReportOf v (l .first) .number ≡ 0) × (componentReportOf v (l .first) .genus ≡ 0)
+  pub second : (componentReportOf v (l .second) .number ≡ 0) × (componentReportOf v (l .second) .genus ≡ 0)
+  pub others :
+      (x : ℕ) → componentReportOf w x .number ≡ 0 → isSame w Component (l .first) x ≡ false →
+      componentReportOf v x ≡ componentReportOf w x
+
+abbrev pub ComponentRingDemand : Type 0
+ComponentRingDemand =
+    (w : Table) (ring : List ℕ) (l : DoubleLink) (ls : List DoubleLink) → ringCallFault w ring ≡ 0 →
+    linksOf ring ≡ l ∷ ls → componentReportOf w (l .first) .genus ≡ 0 →
+    IsPartedByReports w (ringCallLeaves w ring) l ls
+
 -- a ring cut has parted the component of its first double-link, as `IsParted` says
 pub record IsRingCut (w v : Table) (ring : List ℕ) : Type 0 where
   pub link : DoubleLink
@@ -201,7 +228,7 @@ pub record IsRingCut (w v : Table) (ring : List ℕ) : Type 0 where
   pub listed : linksOf ring ≡ link ∷ links
   pub parted : IsParted (hypermapOf w) (hypermapOf v) link links
 
--- "On every flat plan every accepted ring cut, whatever its number of crossings, parts the ring's piece in exactly two,
+-- it follows: "On every flat plan every accepted ring cut, whatever its number of crossings, parts the ring's piece in exactly two,
 -- one with all the first tabs, the other with all the second tabs; every other piece keeps its tabs, and the plan stays
 -- flat": flat by the reports before and after it
 abbrev pub RingDemand : Type 0
@@ -211,19 +238,12 @@ RingDemand =
     (reportOf (ringCallLeaves w ring) .components ≡ suc (reportOf w .components)) ×
     (reportOf (ringCallLeaves w ring) .genus ≡ 0)
 
--- more: only the ring's own piece need be flat
-abbrev pub ComponentRingDemand : Type 0
-ComponentRingDemand =
-    (w : Table) (ring : List ℕ) (l : DoubleLink) (ls : List DoubleLink) → ringCallFault w ring ≡ 0 →
-    linksOf ring ≡ l ∷ ls → isPlanar (componentAt (hypermapOf w) (l .first)) ≡ true →
-    IsParted (hypermapOf w) (hypermapOf (ringCallLeaves w ring)) l ls
-
 -- DEMAND 3, whole
 pub record ThirdDemand : Type 0 where
   pub genus : GenusDemand
   pub joins : JoinDemand
-  pub rings : RingDemand
   pub componentRings : ComponentRingDemand
+  pub rings : RingDemand
 
 -- ALL THREE
 pub record Demands : Type 0 where

@@ -5,3 +5,4 @@ pub mod Demands
 pub mod TapeNeeds
 pub mod Lifts
 pub mod Rounds
+pub mod ComponentReports

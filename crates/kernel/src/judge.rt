@@ -1,8 +1,7 @@
 // What is judged before anything else: the size of the table, its soundness, and then the darts that a question names.
 ghost use mathlib.Core.Path.{_≡_};
 ghost use mathlib.Core.List.{[], _∷_};
-ghost use Rattle.kernel.specs.Calls.{sizeFits, tableFault, questionFault, refusalOf};
-use crate::Answer;
+ghost use Rattle.kernel.specs.Calls.{sizeFits, tableFault, questionFault};
 use table::command;
 use table::refusal;
 use table::sound;
@@ -47,15 +46,4 @@ pub fn darts_question_fault(table: &[u16], a: u16, b: u16) -> u8
         return fault;
     }
     command::darts_fault(table, a, b)
-}
-
-// A refusal, with all else zero.
-pub fn refused(fault: u8) -> Answer
-    ensures { λ r. ⌜ r ≡ refusalOf fault ⌝ }
-{
-    Answer {
-        number: fault,
-        yes: false,
-        count: 0,
-    }
 }

@@ -3,12 +3,14 @@
 ghost use mathlib.Core.Path.{_≡_};
 ghost use Rattle.table.specs.Commands.{puts, takesOut, joins, cuts};
 ghost use Rattle.table.specs.Inner.{dimensionOf};
-ghost use Rattle.kernel.specs.Calls.{callFault, callLeaves, reportOf, sameAnswer, roundAnswer, roundLeaves};
-ghost use Rattle.kernel.specs.Calls.{marksAnswer, marksLeaves, lookOf, ringCallFault, ringCallLeaves};
+ghost use Rattle.kernel.specs.Calls.{callFault, callLeaves, ringCallFault, ringCallLeaves, reportOf};
+ghost use Rattle.kernel.specs.Calls.{componentReportOf, sameAnswer, roundAnswer, roundLeaves, marksAnswer};
+ghost use Rattle.kernel.specs.Calls.{marksLeaves, lookOf};
 ghost use Rattle.tape.specs.Runs.{toldOf};
 ghost use Rattle.kernel.specs.Tapes.{playOutcome, tapeAnswer, tapeLeaves, screenFault, screenLeaves};
 ghost use Rattle.kernel.specs.TapeNeeds.{needsAnswer};
 
+mod answers;
 mod judge;
 
 pub use needs::Needs;
@@ -129,30 +131,20 @@ pub fn report(table: &[u16]) -> Totals
 {
     let fault = judge::table_fault(table);
     if fault != 0 {
-        return Totals {
-            number: fault,
-            darts: 0,
-            edges: 0,
-            vertices: 0,
-            faces: 0,
-            components: 0,
-            characteristic: 0,
-            genus: 0,
-            lifts: 0,
-        };
+        return answers::refused_totals(fault);
     }
-    let c = count::counts(table);
-    Totals {
-        number: 0,
-        darts: c.darts,
-        edges: c.edges,
-        vertices: c.vertices,
-        faces: c.faces,
-        components: c.components,
-        characteristic: c.characteristic,
-        genus: c.genus,
-        lifts: c.lifts,
+    answers::totals(count::counts(table))
+}
+
+// The same numbers of the component of x by itself.
+pub fn component_report(table: &[u16], x: u16) -> Totals
+    ensures { λ r. ⌜ r ≡ componentReportOf (now (table .entry)) x ⌝ }
+{
+    let fault = judge::dart_question_fault(table, x);
+    if fault != 0 {
+        return answers::refused_totals(fault);
     }
+    answers::totals(count::component_counts(table, x))
 }
 
 // Whether a and b lie in one edge, vertex, face or component.
@@ -161,7 +153,7 @@ pub fn same(table: &[u16], part: Part, a: u16, b: u16) -> Answer
 {
     let fault = judge::darts_question_fault(table, a, b);
     if fault != 0 {
-        return judge::refused(fault);
+        return answers::refused(fault);
     }
     Answer {
         number: 0,
@@ -177,11 +169,11 @@ pub fn round(table: &[u16], orbit: Orbit, x: u16, out: &mut [u16]) -> Answer
 {
     let fault = judge::dart_question_fault(table, x);
     if fault != 0 {
-        return judge::refused(fault);
+        return answers::refused(fault);
     }
     let count = walk::orbit_length(table, orbit, x);
     if out.len() < count as usize {
-        return judge::refused(refusal::SHORT_ROOM);
+        return answers::refused(refusal::SHORT_ROOM);
     }
     walk::write_orbit(table, orbit, x, out);
     Answer {
@@ -199,11 +191,11 @@ pub fn component_marks(table: &[u16], out: &mut [u16]) -> Answer
 {
     let fault = judge::table_fault(table);
     if fault != 0 {
-        return judge::refused(fault);
+        return answers::refused(fault);
     }
     let n = words::capacity_of(table);
     if out.len() < n {
-        return judge::refused(refusal::SHORT_ROOM);
+        return answers::refused(refusal::SHORT_ROOM);
     }
     flood::mark_components(table, &mut out[..n]);
     Answer {
@@ -268,7 +260,7 @@ pub fn write_tape(table: &[u16], out: &mut [u8]) -> Answer
 {
     let fault = judge::table_fault(table);
     if fault != 0 {
-        return judge::refused(fault);
+        return answers::refused(fault);
     }
     let tape = write::write_tape(table, out);
     Answer {

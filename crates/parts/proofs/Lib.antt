@@ -7,3 +7,4 @@ pub mod Signed
 pub mod Magnitudes
 pub mod Lifting
 pub mod Reporting
+pub mod MarkedSets

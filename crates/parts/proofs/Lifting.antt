@@ -1,26 +1,32 @@
 -- Lifts are the components less the darts that are alone: such a dart is its whole component, and any other shares its
 -- component with a successor. Assumes nothing.
-use mathlib.Core.Path.{_≡_, refl, sym, _∙_}
-use mathlib.Core.Bool.{Bool, true, false, _&&_, not}
+use mathlib.Core.Path.{_≡_, refl, sym, ap, _∙_}
+use mathlib.Core.Bool.{Bool, true, false, _&&_, not, cond}
 use mathlib.Core.List.{List, [], _∷_}
 use Prim.Native.Nat.{ℕ, _+_, _≤_}
 use native.Mathlib.Omega.{arith}
-use lib.Dec.{eqb}
+use lib.Dec.{leb, eqb}
 use lib.ListN.{length}
-use borrow.Author.Tests.{eqb-false, ne-eqb, le-leb, leb-true}
+use borrow.Author.Tests.{eqb-false, ne-eqb, le-leb, lt-leb, leb-true}
 use Rattle.hypermap.specs.Lists.{keep, distinct, among}
-use Rattle.hypermap.specs.Hypermap.{Dimension, edge, vertex, Hypermap, isDart, isHypermap, componentOf, isLeastIn}
-use Rattle.hypermap.specs.Laws.{compose, IsComponent}
-use Rattle.hypermap.proofs.Basics.Bools.{byCases, boolExt, refuted, andRight, andTrue}
-use Rattle.hypermap.proofs.Basics.Lists.{Mem, memHead, memTail, memNil, memCases, distinctCons, pigeonhole}
-use Rattle.hypermap.proofs.Laws.Components.{componentLaw}
+use Rattle.hypermap.specs.Hypermap.{Dimension, edge, vertex, Hypermap, isDart, isHypermap, componentOf, sameComponent}
+use Rattle.hypermap.specs.Hypermap.{of, face, isLeastIn, componentAt}
+use Rattle.hypermap.specs.Laws.{compose, IsComponent, componentRoots}
+use Rattle.hypermap.specs.RingLaws.{Untouched}
+use Rattle.hypermap.proofs.Basics.Bools.{byCases, clash, boolExt, refuted, andRight, andTrue}
+use Rattle.hypermap.proofs.Basics.Lists.{Mem, memHead, memTail, memNil, memCases, keepMem, memKept, keepExt}
+use Rattle.hypermap.proofs.Basics.Lists.{distinctCons, risingKeep, risingDistinct, pigeonhole}
+use Rattle.hypermap.proofs.Basics.Sums.{sumOnes, sumBoth, keptNone}
+use Rattle.hypermap.proofs.Hypermaps.Totals.{up}
+use Rattle.hypermap.proofs.Laws.Components.{bothHome, componentLaw}
+use Rattle.hypermap.proofs.Laws.ComponentGenus.{isConnected, inC, rootDart, sumKept}
 use Rattle.hypermap.proofs.Laws.Counts.{countLaw}
-use Rattle.table.specs.Layout.{Table, capacity, wordAt, nextWord, isPresent, isSound, hypermapOf}
+use Rattle.table.specs.Layout.{Table, capacity, isPresent}
 use Rattle.table.specs.Commands.{isAlone}
 use Rattle.table.proofs.Accepting.{aloneHome}
-use Rattle.table.proofs.Soundness.{presentFrom, soundHypermap}
-use Rattle.parts.specs.Counts.{isLifted}
-use Rattle.parts.specs.Laws.{LiftsLaw}
+use Rattle.table.proofs.Soundness.{presentFrom}
+use Rattle.parts.specs.Counts.{isLifted, lifts, isAloneIn, aloneDarts, countsOf}
+use Rattle.parts.specs.Laws.{LiftsLaw, LiftsAddUp}
 
 -- what passes one test and fails another
 keepRest :
@@ -65,33 +71,102 @@ module _ (m : Hypermap) (wf : isHypermap m ≡ true) (x : ℕ) (d : isDart m x �
       (λ e. component .members y .1 ([], sym e))
       (λ j. memCases y (m .next k x) [] j (λ e. component .members y .1 (k ∷ [], sym e)) (memNil y)))
 
-notAlone : (w : Table) (x : ℕ) → isAlone w x ≡ false → (k : Dimension) × (wordAt w x (nextWord k) ≡ x → ⊥)
-unfolding isAlone
-notAlone w x f =
-    byCases (eqb (wordAt w x 0) x)
-    (λ t. (vertex, eqb-false (wordAt w x 2) x (rw t at f)))
-    (λ t. (edge, eqb-false (wordAt w x 0) x t))
+module _ (m : Hypermap) (wf : isHypermap m ≡ true) where
+  notAlone : (x : ℕ) → isAloneIn m x ≡ false → (k : Dimension) × (m .next k x ≡ x → ⊥)
+  notAlone x f =
+      byCases (eqb (m .next edge x) x)
+      (λ t. (vertex, eqb-false (m .next vertex x) x (rw t at f)))
+      (λ t. (edge, eqb-false (m .next edge x) x t))
 
-module _ (w : Table) (s : isSound w ≡ true) where
-  abbrev m : Hypermap
-  m = hypermapOf w
-
-  parted : (x : ℕ) → Mem x (m .darts) → isAlone w x ≡ (isLeastIn (componentOf m) x && not (isLifted m x))
+  parted : (x : ℕ) → Mem x (m .darts) → isAloneIn m x ≡ (isLeastIn (componentOf m) x && not (isLifted m x))
   parted x d =
-      let wf = soundHypermap w s in
-      byCases (isAlone w x)
-      (λ t. let h = aloneHome w x t in
+      byCases (isAloneIn m x)
+      (λ t. let h = bothHome (m .next) x t in
       let o = oneDart m wf x d h in
       let f = refuted (isLifted m x) (λ l. omega (arith, o, leb-true _ (length (componentOf m x)) l)) in
       rw (t, isLeast m wf x d h, f))
-      (λ t. let n = notAlone w x t in
+      (λ t. let n = notAlone x t in
       let b = twoDarts m wf x d (n .0) (n .1) in
       let l : isLifted m x ≡ true = le-leb _ (length (componentOf m x)) (omega (arith, b)) in
       byCases (isLeastIn (componentOf m) x) (λ u. rw (t, u, l)) (λ u. rw (t, u)))
 
 pub liftsLaw : LiftsLaw
-liftsLaw w s =
-    keepRest (isLeastIn (componentOf (m w s))) (isLifted (m w s)) (isAlone w) (m w s .darts) (parted w s)
+liftsLaw m wf = keepRest (isLeastIn (componentOf m)) (isLifted m) (isAloneIn m) (m .darts) (parted m wf)
+
+-- ONE COMPONENT has a lift unless its dart is alone
+module _ (m : Hypermap) (wf : isHypermap m ≡ true) (x : ℕ) (d : Mem x (m .darts)) where
+  abbrev c : Hypermap
+  c = componentAt m x
+
+  pub oneOrAlone : lifts c + length (aloneDarts c) ≡ 1
+  oneOrAlone = let i = isConnected m wf x d in liftsLaw c (i .hypermap) ∙ i .one
+
+  pub liftsAlone : isAloneIn m x ≡ true → lifts c ≡ 0
+  unfolding distinct among
+  liftsAlone t =
+      let i = keepMem (isAloneIn m) (c .darts) x (inC m wf x d) t in
+      let l = pigeonhole (x ∷ []) (aloneDarts c) refl (λ y j. memCases y x [] j (λ e. rw e i) (memNil y)) in
+      omega (arith, oneOrAlone, l)
+
+  pub liftsShared : isAloneIn m x ≡ false → lifts c ≡ 1
+  liftsShared f =
+      let none = keptNone (isAloneIn m) (c .darts) (λ y i. refuted (isAloneIn m y) (λ t. clash (rw (same y i t) t) f)) in
+      omega (arith, oneOrAlone, none)
+    where
+      same : (y : ℕ) → Mem y (c .darts) → isAloneIn m y ≡ true → x ≡ y
+      same y i t =
+          let k = memKept (sameComponent m x) (m .darts) y i in
+          itself m wf y (k .0) (bothHome (m .next) y t) x (componentLaw m wf .1 .symmetric x y d (k .1))
+
+  -- its darts, in either list
+  sameMany : length (c .darts) ≡ length (componentOf m x)
+  sameMany =
+      let q = componentLaw m wf in
+      let p = sameComponent m x in
+      let few = pigeonhole (c .darts) (componentOf m x) (risingDistinct (c .darts) (risingKeep p (m .darts) (up m wf)))
+      (λ y i. memKept p (m .darts) y i .1) in
+      let many = pigeonhole (componentOf m x) (c .darts) (q .0 x d .once)
+      (λ y i. keepMem p (m .darts) y (q .1 .within x y d i) i) in
+      omega (arith, few, many)
+
+  pub liftsByDarts : lifts c ≡ cond (leb 2 (length (c .darts))) 1 0
+  liftsByDarts =
+      byCases (isAloneIn m x)
+      (λ t. let l = oneDart m wf x d (bothHome (m .next) x t) in
+      rw (lt-leb 2 (length (c .darts)) (omega (arith, l, sameMany))) (liftsAlone t))
+      (λ t. let n = notAlone m wf x t in
+      let l = twoDarts m wf x d (n .0) (n .1) in
+      rw (le-leb 2 (length (c .darts)) (omega (arith, l, sameMany))) (liftsShared t))
+
+-- a component that is untouched keeps all its numbers
+pub untouchedCounts :
+    (m n : Hypermap) → isHypermap m ≡ true → isHypermap n ≡ true → n .darts ≡ m .darts → (x : ℕ) → Mem x (m .darts) →
+    Untouched m n x → countsOf (componentAt n x) ≡ countsOf (componentAt m x)
+unfolding countsOf
+untouchedCounts m n wf wf′ e x d u =
+    let d′ : Mem x (n .darts) = rw e d in
+    let ds : componentAt n x .darts ≡ componentAt m x .darts
+    = keepExt (sameComponent n x) (sameComponent m x) (n .darts) (λ y i. u .component .sameDarts y) ∙
+    ap (keep (sameComponent m x)) e in
+    cc (
+      ap length ds,
+      u .sameOrbits (of edge),
+      u .sameOrbits (of vertex),
+      u .sameOrbits face,
+      isConnected n wf′ x d′ .one,
+      isConnected m wf x d .one,
+      u .component .sameGenus,
+      liftsByDarts n wf′ x d′,
+      liftsByDarts m wf x d,
+    )
+
+-- ALL COMPONENTS
+pub liftsAddUp : LiftsAddUp
+liftsAddUp m wf =
+    let both = sumBoth (λ r. lifts (componentAt m r)) (λ r. length (aloneDarts (componentAt m r))) (componentRoots m) in
+    let ones = sumOnes (λ r. lifts (componentAt m r) + length (aloneDarts (componentAt m r))) (componentRoots m)
+    (λ r i. oneOrAlone m wf r (rootDart m wf r i)) in
+    omega (arith, both, ones, sumKept m wf (isAloneIn m), liftsLaw m wf)
 
 -- a number without a dart is not alone: its words are zeros
 pub aloneTest : (w : Table) (x : ℕ) → 1 ≤ x → x ≤ capacity w → (isPresent w x && isAlone w x) ≡ isAlone w x

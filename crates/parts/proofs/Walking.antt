@@ -27,23 +27,23 @@ pub orbitParts :
     (w : Table) → isSound w ≡ true → (c : Kind) → Equivalence (hypermapOf w .darts) (sameOrbit (hypermapOf w) c)
 orbitParts w s c = orbitLaw (hypermapOf w) (soundHypermap w s) c .1
 
--- PAINTING a part: the darts of zs are left
-record Left (part zs : List ℕ) (x : ℕ) (before after : List ℕ) : Type 0 where
+-- PAINTING a part with v: the darts of zs are left
+record Left (part zs : List ℕ) (v : ℕ) (before after : List ℕ) : Type 0 where
   size : length after ≡ length before
-  inside : (z : ℕ) → Mem z part → Mem z zs ⊎ (markAt after z ≡ x)
+  inside : (z : ℕ) → Mem z part → Mem z zs ⊎ (markAt after z ≡ v)
   outside : (z : ℕ) → 1 ≤ z → among z part ≡ false → markAt after z ≡ markAt before z
 
 leftLess :
-    (part zs : List ℕ) (x y : ℕ) (before m : List ℕ) → ((z : ℕ) → Mem z part → 1 ≤ z) → Mem y part → HasMark m y →
-    Left part (y ∷ zs) x before m → Left part zs x before (set m (y - 1) x)
-leftLess part zs x y before m ones h k l = record {
-  size = length-set m (y - 1) x ∙ l .size;
+    (part zs : List ℕ) (v y : ℕ) (before m : List ℕ) → ((z : ℕ) → Mem z part → 1 ≤ z) → Mem y part → HasMark m y →
+    Left part (y ∷ zs) v before m → Left part zs v before (set m (y - 1) v)
+leftLess part zs v y before m ones h k l = record {
+  size = length-set m (y - 1) v ∙ l .size;
   inside = λ z i. byCases (eqb z y)
-      (λ t. inr (rw (eqb-true z y t) (setHere m y x k)))
+      (λ t. inr (rw (eqb-true z y t) (setHere m y v k)))
       (λ t. let d = eqb-false z y t in
       ⊎-elim (λ j. memCases z y zs j (λ e. absurd (d e)) (λ j. inl j))
-      (λ e. inr (setElse m y x k z (ones z i) d ∙ e)) (l .inside z i));
-  outside = λ z o n. setElse m y x k z o (λ e. clash (rw e h) n) ∙ l .outside z o n;
+      (λ e. inr (setElse m y v k z (ones z i) d ∙ e)) (l .inside z i));
+  outside = λ z o n. setElse m y v k z o (λ e. clash (rw e h) n) ∙ l .outside z o n;
 }
 
 -- A WALK to h that comes there within n steps
@@ -71,14 +71,14 @@ abbrev pub toCome : Table → Kind → (x y : ℕ) → ℕ
 toCome w c x y = length (walkFrom (capacity w) (step (hypermapOf w) c) x (step (hypermapOf w) c y))
 
 -- THE WALK from x stands at y, which is to be marked next
-pub record Walking (w : Table) (c : Kind) (x : ℕ) (before m : List ℕ) (y : ℕ) : Type 0 where
+pub record Walking (w : Table) (c : Kind) (x v : ℕ) (before m : List ℕ) (y : ℕ) : Type 0 where
   here : Mem y (orbitOf (hypermapOf w) c x)
   home : Home (capacity w) (step (hypermapOf w) c) x y
   left :
       Left (orbitOf (hypermapOf w) c x)
-      (y ∷ walkFrom (capacity w) (step (hypermapOf w) c) x (step (hypermapOf w) c y)) x before m
+      (y ∷ walkFrom (capacity w) (step (hypermapOf w) c) x (step (hypermapOf w) c y)) v before m
 
-module _ (w : Table) (c : Kind) (x : ℕ) (before : List ℕ) (k : MarkingAt w x before) where
+module _ (w : Table) (c : Kind) (x v : ℕ) (before : List ℕ) (k : MarkingAt w x before) where
   abbrev f : ℕ → ℕ
   f = step (hypermapOf w) c
 
@@ -91,7 +91,7 @@ module _ (w : Table) (c : Kind) (x : ℕ) (before : List ℕ) (k : MarkingAt w x
   orbit : IsOrbit (hypermapOf w .darts) f x (orbitOf (hypermapOf w) c x)
   orbit = orbitLaw (hypermapOf w) (soundHypermap w (k .at .sound)) c .0 x start
 
-  pub walkingNone : Walking w c x before before x
+  pub walkingNone : Walking w c x v before before x
   walkingNone = record {
     here = memHead x _;
     home = (
@@ -102,7 +102,7 @@ module _ (w : Table) (c : Kind) (x : ℕ) (before : List ℕ) (k : MarkingAt w x
     left = record { size = refl; inside = λ z i. inl i; outside = λ z l n. refl };
   }
 
-  module _ (m : List ℕ) (y : ℕ) (s : Walking w c x before m y) where
+  module _ (m : List ℕ) (y : ℕ) (s : Walking w c x v before m y) where
     pub walkingAt : SoundAt w y
     walkingAt = record { sound = k .at .sound; here = present y (s .here) }
 
@@ -115,13 +115,13 @@ module _ (w : Table) (c : Kind) (x : ℕ) (before : List ℕ) (k : MarkingAt w x
         record { low = low w y p; high = omega (arith, high w y p, walkingSize) }
 
     -- y is marked, and the walk goes on to z
-    module _ (z : ℕ) (isZ : z ≡ f y) (v : List ℕ) (isV : v ≡ set m (y - 1) x) where
-      marked : Left (orbitOf (hypermapOf w) c x) (walkFrom (capacity w) f x z) x before v
+    module _ (z : ℕ) (isZ : z ≡ f y) (n : List ℕ) (isN : n ≡ set m (y - 1) v) where
+      marked : Left (orbitOf (hypermapOf w) c x) (walkFrom (capacity w) f x z) v before n
       marked =
-          rw (isZ, isV)
-          (leftLess _ _ x y before m (λ z i. low w z (present z i)) (s .here) walkingMark (s .left))
+          rw (isZ, isN)
+          (leftLess _ _ v y before m (λ z i. low w z (present z i)) (s .here) walkingMark (s .left))
 
-      pub walkingOn : (z ≡ x → ⊥) → Walking w c x before v z × (toCome w c x z < toCome w c x y)
+      pub walkingOn : (z ≡ x → ⊥) → Walking w c x v before n z × (toCome w c x z < toCome w c x y)
       walkingOn d =
           let h = walkOn (capacity w) f x z (s .home .0) (s .home .1) (rw isZ (s .home .2)) d in (
             record {
@@ -132,7 +132,7 @@ module _ (w : Table) (c : Kind) (x : ℕ) (before : List ℕ) (k : MarkingAt w x
             rw (← isZ, h .1) (omega arith),
           )
 
-      pub walkingHome : z ≡ x → Painted (orbitOf (hypermapOf w) c x) x before v
+      pub walkingHome : z ≡ x → Painted (orbitOf (hypermapOf w) c x) v before n
       walkingHome e = record {
         inside = λ u i. ⊎-elim (λ j. memNil u (rw (walkEnd (capacity w) f x z e) at j)) (λ q. q) (marked .inside u i);
         outside = marked .outside;

@@ -1,16 +1,21 @@
-// The numbers of a report. Each count of parts has an array of marks of its own.
+// The numbers of a report, of all darts or of one component. The darts to be counted are told by a mark, each count of
+// orbits raises it by one, and so one array of marks serves them all.
 ghost use mathlib.Core.Path.{_≡_};
-ghost use Prim.Native.Nat.{_+_, _*_};
+ghost use Prim.Native.Nat.{_+_, _*_, _<_};
 ghost use lib.IntN.{pos, _+ℤ_, _-ℤ_};
 ghost use lib.ListN.{length};
-ghost use Rattle.hypermap.specs.Hypermap.{orbits, components};
+ghost use Rattle.hypermap.specs.Hypermap.{orbits, components, componentAt};
 ghost use Rattle.table.specs.Layout.{hypermapOf};
 ghost use Rattle.table.specs.Inner.{kindOf};
 ghost use Rattle.parts.specs.Counts.{lifts, aloneDarts, countsOf};
-ghost use Rattle.parts.specs.Inner.{Counted, CountedParts, Few, HasGenus};
+ghost use Rattle.parts.specs.Inner.{Counted, CountedAt, CountedParts, Few, HasGenus, MarkedSet, markedIn, Raised};
+ghost use Rattle.parts.specs.Inner.{MarkedParts};
 use crate::Counts;
+use crate::flood::flood;
 use crate::flood::mark_components;
-use crate::marks::mark_orbits;
+use crate::marks::mark_darts;
+use crate::marks::mark_of;
+use crate::marks::mark_orbit;
 use table::Orbit;
 use table::command;
 use table::words;
@@ -31,15 +36,6 @@ pub fn count_darts(table: &[u16]) -> u32
     count
 }
 
-pub fn count_orbits(table: &[u16], orbit: Orbit) -> u32
-    requires { ⌜ Counted (now table) ⌝ }
-    ensures { λ r. ⌜ r ≡ orbits (hypermapOf (now (table .entry))) (kindOf orbit) ⌝ }
-{
-    let n = words::capacity_of(table);
-    let mut marks = [0u16; 4096];
-    mark_orbits(table, orbit, &mut marks[..n])
-}
-
 pub fn count_components(table: &[u16]) -> u32
     requires { ⌜ Counted (now table) ⌝ }
     ensures { λ r. ⌜ r ≡ components (hypermapOf (now (table .entry))) ⌝ }
@@ -49,10 +45,12 @@ pub fn count_components(table: &[u16]) -> u32
     mark_components(table, &mut marks[..n])
 }
 
+// LIFTS: the components of at least two darts
+
 // The darts that are a component by themselves.
 pub fn count_alone(table: &[u16]) -> u32
     requires { ⌜ Counted (now table) ⌝ }
-    ensures { λ r. ⌜ r ≡ length (aloneDarts (now (table .entry))) ⌝ }
+    ensures { λ r. ⌜ r ≡ length (aloneDarts (hypermapOf (now (table .entry)))) ⌝ }
 {
     let n = words::capacity_of(table);
     let mut count: u32 = 0;
@@ -66,12 +64,56 @@ pub fn count_alone(table: &[u16]) -> u32
     count
 }
 
-// The components of at least two darts.
 pub fn count_lifts(table: &[u16], components: u32) -> u32
     requires { ⌜ CountedParts (now table) components ⌝ }
     ensures { λ r. ⌜ r ≡ lifts (hypermapOf (now (table .entry))) ⌝ }
 {
     components - count_alone(table)
+}
+
+// Of the component of x.
+pub fn component_lifts(table: &[u16], x: u16) -> u32
+    requires { ⌜ CountedAt (now table) x ⌝ }
+    ensures { λ r. ⌜ r ≡ lifts (componentAt (hypermapOf (now (table .entry))) x) ⌝ }
+{
+    if command::is_alone(table, x) { 0 } else { 1 }
+}
+
+// MARKED DARTS
+
+pub fn count_marked(table: &[u16], marks: &[u16], value: u16) -> u32
+    requires { ⌜ MarkedSet (now table) (now marks) value ⌝ }
+    ensures { λ r. ⌜ r ≡ length (markedIn (now (table .entry)) (now (marks .entry)) value .darts) ⌝ }
+{
+    let n = words::capacity_of(table);
+    let mut count: u32 = 0;
+    let mut k = 0;
+    while k < n {
+        if marks[k] == value {
+            count += 1;
+        }
+        k += 1;
+    }
+    count
+}
+
+// The orbits of the darts that are marked with value, and marked with the next number afterwards.
+pub fn count_orbits(table: &[u16], orbit: Orbit, marks: &mut [u16], value: u16) -> u32
+    requires { ⌜ MarkedSet (now table) (now marks) value × (value < 65535) ⌝ }
+    ensures { λ r. ⌜ r ≡ orbits (markedIn (now (table .entry)) (now (marks .entry)) value) (kindOf orbit) ⌝ }
+    ensures marks { λ _. ⌜ Raised value (now (marks .entry)) (now (marks .exit)) ⌝ }
+{
+    let n = words::capacity_of(table);
+    let mut count: u32 = 0;
+    let mut x: u16 = 1;
+    while words::wide(x) <= n {
+        if mark_of(marks, x) == value {
+            mark_orbit(table, orbit, x, value + 1, marks);
+            count += 1;
+        }
+        x += 1;
+    }
+    count
 }
 
 // Vertices, edges and faces less darts.
@@ -90,18 +132,25 @@ pub fn genus_of(components: u32, characteristic: i32) -> u32
     ((2 * components as i32 - characteristic) / 2) as u32
 }
 
-pub fn counts(table: &[u16]) -> Counts
-    requires { ⌜ Counted (now table) ⌝ }
-    ensures { λ r. ⌜ r ≡ countsOf (now (table .entry)) ⌝ }
+// REPORTS
+
+// Of the darts that are marked with value; how many components and lifts they have is told.
+pub fn marked_counts(
+    table: &[u16],
+    marks: &mut [u16],
+    value: u16,
+    components: u32,
+    lifts: u32,
+) -> Counts
+    requires { ⌜ MarkedParts (now table) (now marks) value components lifts ⌝ }
+    ensures { λ r. ⌜ r ≡ countsOf (markedIn (now (table .entry)) (now (marks .entry)) value) ⌝ }
 {
-    let darts = count_darts(table);
-    let edges = count_orbits(table, Orbit::Edge);
-    let vertices = count_orbits(table, Orbit::Vertex);
-    let faces = count_orbits(table, Orbit::Face);
-    let components = count_components(table);
+    let darts = count_marked(table, marks, value);
+    let edges = count_orbits(table, Orbit::Edge, marks, value);
+    let vertices = count_orbits(table, Orbit::Vertex, marks, value + 1);
+    let faces = count_orbits(table, Orbit::Face, marks, value + 2);
     let characteristic = characteristic_of(darts, edges, vertices, faces);
     let genus = genus_of(components, characteristic);
-    let lifts = count_lifts(table, components);
     Counts {
         darts,
         edges,
@@ -112,4 +161,28 @@ pub fn counts(table: &[u16]) -> Counts
         genus,
         lifts,
     }
+}
+
+// Of all darts.
+pub fn counts(table: &[u16]) -> Counts
+    requires { ⌜ Counted (now table) ⌝ }
+    ensures { λ r. ⌜ r ≡ countsOf (hypermapOf (now (table .entry))) ⌝ }
+{
+    let components = count_components(table);
+    let lifts = count_lifts(table, components);
+    let mut marks = [0u16; 4096];
+    mark_darts(table, &mut marks);
+    marked_counts(table, &mut marks, 1, components, lifts)
+}
+
+// Of the component of x, which alone is flooded.
+pub fn component_counts(table: &[u16], x: u16) -> Counts
+    requires { ⌜ CountedAt (now table) x ⌝ }
+    ensures { λ r. ⌜ r ≡ countsOf (componentAt (hypermapOf (now (table .entry))) x) ⌝ }
+{
+    let lifts = component_lifts(table, x);
+    let mut marks = [0u16; 4096];
+    let mut queue = [0u16; 4096];
+    flood(table, x, &mut marks, &mut queue);
+    marked_counts(table, &mut marks, x, 1, lifts)
 }

@@ -7,7 +7,7 @@ ghost use Rattle.hypermap.specs.Hypermap.{orbitOf, orbits};
 ghost use Rattle.table.specs.Layout.{hypermapOf};
 ghost use Rattle.table.specs.Inner.{InTable, kindOf};
 ghost use Rattle.parts.specs.Marks.{orbitMarks};
-ghost use Rattle.parts.specs.Inner.{Marking, MarkingAt, HasMark, markAt, isFresh, Painted};
+ghost use Rattle.parts.specs.Inner.{HasMarks, Marking, MarkingAt, HasMark, markAt, isFresh, Painted};
 use table::Orbit;
 use table::walk;
 use table::words;
@@ -47,15 +47,30 @@ pub fn is_fresh(table: &[u16], marks: &[u16], x: u16) -> bool
     (0 < words::word(table, x, 0)) & (mark_of(marks, x) == 0)
 }
 
-// Writes x at each dart of its orbit.
-pub fn mark_orbit(table: &[u16], orbit: Orbit, x: u16, marks: &mut [u16])
+// Writes 1 at each dart.
+pub fn mark_darts(table: &[u16], marks: &mut [u16])
+    requires { ⌜ HasMarks (now table) (now marks) ⌝ }
+    ensures { λ _. ⌜ Painted (hypermapOf (now (table .entry)) .darts) 1 (now (marks .entry)) (now (marks .exit)) ⌝ }
+{
+    let n = words::capacity_of(table);
+    let mut x: u16 = 1;
+    while words::wide(x) <= n {
+        if 0 < words::word(table, x, 0) {
+            set_mark(marks, x, 1);
+        }
+        x += 1;
+    }
+}
+
+// Writes value at each dart of the orbit of x.
+pub fn mark_orbit(table: &[u16], orbit: Orbit, x: u16, value: u16, marks: &mut [u16])
     requires { ⌜ MarkingAt (now table) x (now marks) ⌝ }
-    ensures { λ _. ⌜ Painted (orbitOf (hypermapOf (now (table .entry))) (kindOf orbit) x) x
+    ensures { λ _. ⌜ Painted (orbitOf (hypermapOf (now (table .entry))) (kindOf orbit) x) value
         (now (marks .entry)) (now (marks .exit)) ⌝ }
 {
     let mut at = x;
     loop {
-        set_mark(marks, at, x);
+        set_mark(marks, at, value);
         at = walk::step(table, orbit, at);
         if at == x {
             return;
@@ -75,7 +90,7 @@ pub fn mark_orbits(table: &[u16], orbit: Orbit, marks: &mut [u16]) -> u32
     let mut x: u16 = 1;
     while words::wide(x) <= n {
         if is_fresh(table, marks, x) {
-            mark_orbit(table, orbit, x, marks);
+            mark_orbit(table, orbit, x, x, marks);
             count += 1;
         }
         x += 1;

@@ -21,7 +21,7 @@ pub fn firsts_apart(table: &[u16], orbit: Orbit, ring: &[u16], marks: &mut [u16]
         if marks::mark_of(marks, x) != 0 {
             return false;
         }
-        marks::mark_orbit(table, orbit, x, marks);
+        marks::mark_orbit(table, orbit, x, x, marks);
         k += 2;
     }
     true

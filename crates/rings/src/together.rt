@@ -17,7 +17,7 @@ fn mark_firsts(table: &[u16], ring: &[u16], marks: &mut [u16])
     while k + 1 < ring.len() {
         let x = ring[k];
         if marks::mark_of(marks, x) == 0 {
-            marks::mark_orbit(table, Orbit::Edge, x, marks);
+            marks::mark_orbit(table, Orbit::Edge, x, x, marks);
         }
         k += 2;
     }

@@ -7,7 +7,7 @@ use native.Mathlib.Omega.{arith}
 use lib.ListN.{length, getD, take, drop, set, length-append, length-drop}
 use lib.Seq.{length-take-le, take-length, drop-length, take-all, take-suc, take-at, drop-at, drop-drop}
 use borrow.Author.Tests.{le-leb}
-use Rattle.table.specs.Layout.{Table}
+use Rattle.table.specs.Layout.{Table, hypermapOf}
 use Rattle.parts.specs.Counts.{countsOf}
 use Rattle.parts.specs.declared.Counts.{Counts}
 use Rattle.writer.specs.Canonical.{tapeOf}
@@ -97,8 +97,8 @@ behind h hs bs o p t e l f w =
 
 pub answerLaid :
     (w : Table) (r : Run) (c : Counts) (z : ℕ) (o p t : List ℕ) {n : ℕ} →
-    c ≡ countsOf w → z ≡ twosComplement (c .characteristic) → screenRoom ≤ length o → length (tapeOf w) ≤ 53238 →
-    Lays 0
+    c ≡ countsOf (hypermapOf w) → z ≡ twosComplement (c .characteristic) → screenRoom ≤ length o →
+    length (tapeOf w) ≤ 53238 → Lays 0
     (numbersBytes
     (r .number ∷ r .accepted ∷ c .darts ∷ c .edges ∷ c .vertices ∷ c .faces ∷ c .components ∷ z ∷ c .genus ∷
     c .lifts ∷ [])) o p n →
@@ -107,5 +107,5 @@ pub answerLaid :
     screenBytes (outcomeOf r w) ++ drop (length (screenBytes (outcomeOf r w))) o
 unfolding screenBytes
 answerLaid w r c z o p t e i l m f v =
-    let ns = tenNumbers (r .number) (r .accepted) (countsOf w) in
+    let ns = tenNumbers (r .number) (r .accepted) (countsOf (hypermapOf w)) in
     behind 40 (numbersBytes ns) (tapeOf w) o p t (numbersLength ns) (omega arith) (rw (i, e) at f) v

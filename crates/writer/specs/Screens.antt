@@ -3,7 +3,7 @@
 use mathlib.Core.List.{List, [], _∷_, _++_}
 use Prim.Native.Nat.{ℕ, _-_, _/_, _%_}
 use lib.IntN.{ℤ, pos, negsuc}
-use Rattle.table.specs.Layout.{Table}
+use Rattle.table.specs.Layout.{Table, hypermapOf}
 use Rattle.parts.specs.Counts.{countsOf}
 use Rattle.parts.specs.declared.Counts.{Counts}
 use Rattle.tape.specs.Runs.{Outcome}
@@ -35,7 +35,7 @@ tenNumbers n k c =
 -- document 01's order: tabs, ties, cells, gaps; and then the rewritten tape
 unfoldable pub screenBytes : Outcome → List ℕ
 screenBytes o =
-    numbersBytes (tenNumbers (o .number) (o .accepted) (countsOf (o .table))) ++ tapeOf (o .table)
+    numbersBytes (tenNumbers (o .number) (o .accepted) (countsOf (hypermapOf (o .table)))) ++ tapeOf (o .table)
 
 -- an outcome by what a run tells
 abbrev pub outcomeOf : Run → Table → Outcome

@@ -3,7 +3,7 @@
 //!
 //!     benchmark [--rounds N]
 
-use lotskadi_host::plans::Grid;
+use lotskadi_host::plans::{beside, Grid};
 use lotskadi_host::random::Random;
 use lotskadi_host::second::{Map, Plan, Tab};
 use lotskadi_host::{binding, plain};
@@ -169,6 +169,20 @@ impl Bench {
                 tables,
                 |words| timed(words, |table| binding::report(table)),
                 |words| timed(words, |table| plain::report(table)),
+            ));
+        }
+        let many = (1..capacity / 64).fold(grid(64), |plan, _| beside(&plan, &grid(64), capacity));
+        let pieces = self.scattered_words(&many);
+        for (name, tables) in [("piece report, of all tabs", &scattered), ("piece report, of 64 tabs", &pieces)] {
+            let asked: Vec<(Vec<u16>, u16)> = tables.iter().map(|words| (words.clone(), two_tabs(words).2)).collect();
+            for (words, tab) in &asked {
+                assert_eq!(binding::component_report(words, u32::from(*tab)), plain::piece_report(words, *tab));
+            }
+            rows.push(self.row(
+                name,
+                &asked,
+                |(words, tab)| timed(words, |table| binding::component_report(table, u32::from(*tab))),
+                |(words, tab)| timed(words, |table| plain::piece_report(table, *tab)),
             ));
         }
         let gaps: Vec<Vec<u16>> = (0..PLANS).map(|_| one_gap(&mut self.random, capacity).to_words()).collect();

@@ -5,6 +5,7 @@
 //! For as long as it is given (20 seconds), with a seed (1): random and structured plans and tapes, whole and damaged.
 //! It ends with how often each refusal was met, and fails where one was never met.
 
+use lotskadi_host::binding::Totals;
 use lotskadi_host::compare::{screen, tape_needs, Lent, Met};
 use lotskadi_host::plans;
 use lotskadi_host::random::Random;
@@ -54,8 +55,10 @@ fn questions(random: &mut Random, met: &mut Met, lent: &Lent) {
         lent.same(met, *random.one_of(&PARTS), a, b);
         let part = *random.one_of(&PARTS[..3]);
         round(random, met, lent, part, a);
+        lent.component_report(met, b);
     }
     lent.report(met);
+    lent.component_reports(met);
     let room = around(random, plan.capacity);
     lent.marks(met, room);
     let room = around(random, plan.tape().len());
@@ -178,6 +181,29 @@ fn rings(random: &mut Random, met: &mut Met) {
     lent.command(met, &Command::Ring(ring));
 }
 
+/// A ring in a flat piece beside others, with handles or not: it parts in two flat pieces, and every other piece keeps
+/// its report.
+fn ring_beside(random: &mut Random, met: &mut Met) {
+    let grid = plans::Grid::new(2 + random.below(4), 2 + random.below(4), second::MAX_CAPACITY).plan;
+    let Some(ring) = plans::ring(random, &grid, 40) else { return };
+    let others = plans::random(random, 30);
+    let plan = plans::beside(&grid, &others, second::MAX_CAPACITY);
+    let mut lent = Lent::of(&plan);
+    assert_eq!(lent.component_report(met, ring[0]).handles, 0, "a grid is flat");
+    let reports = |lent: &Lent, met: &mut Met| -> Vec<Totals> {
+        let behind = grid.tie.len() as Tab + 1;
+        lent.plan().tie.keys().filter(|&&t| t >= behind).map(|&t| lent.component_report(met, t)).collect()
+    };
+    let before = reports(&lent, met);
+    let tabs = grid.tie.len() as u32;
+    assert_eq!(lent.command(met, &Command::Ring(ring.clone())), 0, "a ring of the grid");
+    let (inner, outer) = (lent.component_report(met, ring[0]), lent.component_report(met, ring[1]));
+    assert_eq!((inner.handles, outer.handles), (0, 0), "two flat pieces");
+    assert_eq!(inner.tabs + outer.tabs, tabs, "the ring's piece parts in two");
+    assert_eq!(reports(&lent, met), before, "every other piece keeps its report");
+    met.rings_beside_handles += u64::from(before.iter().any(|t| t.handles > 0));
+}
+
 /// What is as large as it may be, and one more.
 fn full(random: &mut Random, met: &mut Met) {
     let capacity = second::MAX_CAPACITY;
@@ -191,6 +217,7 @@ fn full(random: &mut Random, met: &mut Met) {
     lent.report(met);
     lent.write_tape(met, 53_238);
     lent.marks(met, capacity);
+    lent.component_report(met, 1 + random.below(capacity) as Tab);
     for part in &PARTS[..3] {
         let tab = 1 + random.below(capacity) as Tab;
         round(random, met, &lent, *part, tab);
@@ -228,7 +255,8 @@ fn main() {
     while Instant::now() < end {
         match turns % 200 {
             0 => full(&mut random, &mut met),
-            n if n % 10 == 5 => rings(&mut random, &mut met),
+            n if n % 20 == 5 => rings(&mut random, &mut met),
+            n if n % 20 == 15 => ring_beside(&mut random, &mut met),
             n if n % 4 == 1 => damaged_table(&mut random, &mut met),
             n if n % 4 == 2 => tapes(&mut random, &mut met),
             _ => commands(&mut random, &mut met),
@@ -241,12 +269,13 @@ fn main() {
         met.rings, met.longest_ring, met.longest_round, met.foretold
     );
     println!("{} reports of plans with handles, {} of plans lifted in part", met.with_handles, met.partly_lifted);
+    println!("{} rings in a flat piece beside one with handles", met.rings_beside_handles);
     println!("refusals (0: accepted) and how often each was met:");
     for (number, times) in met.refusals.iter().enumerate() {
         println!("  {number:2}: {times}");
     }
     let all_met = met.refusals.iter().all(|&times| times > 0);
-    let plans_met = met.rings > 0 && met.with_handles > 0 && met.partly_lifted > 0 && met.foretold > 0;
+    let plans_met = [met.rings, met.with_handles, met.partly_lifted, met.rings_beside_handles, met.foretold];
     let longest_met = met.longest_round == second::MAX_CAPACITY;
-    assert!(all_met && plans_met && longest_met, "something was never met");
+    assert!(all_met && plans_met.iter().all(|&times| times > 0) && longest_met, "something was never met");
 }

@@ -6,8 +6,8 @@ use mathlib.Core.List.{List, [], _∷_}
 use Prim.Native.Nat.{ℕ}
 use lib.Dec.{eqb}
 use Rattle.hypermap.specs.Lists.{among, keep}
-use Rattle.hypermap.specs.Hypermap.{Dimension, edge, Hypermap, isDart, isHypermap, sameComponent, genus, restrict}
-use Rattle.hypermap.specs.Hypermap.{componentAt}
+use Rattle.hypermap.specs.Hypermap.{Dimension, edge, Hypermap, isDart, isHypermap, Kind, sameComponent, orbits}
+use Rattle.hypermap.specs.Hypermap.{genus, restrict, componentAt}
 use Rattle.hypermap.specs.Change.{swapIn, change}
 use Rattle.hypermap.specs.Ring.{DoubleLink, allLinks, breakAlong}
 use Rattle.hypermap.specs.Laws.{SameAnswers}
@@ -61,14 +61,17 @@ module _ (m n : Hypermap) (wf : isHypermap m ≡ true) (wf′ : isHypermap n ≡
   componentAgrees : (x : ℕ) → Mem x (m .darts) → (y : ℕ) → sameComponent n x y ≡ sameComponent m x y
   componentAgrees x d y = ap (among y) (answersAgree .sameComponents x d)
 
-  genusAgrees : (x : ℕ) → Mem x (m .darts) → genus (componentAt n x) ≡ genus (componentAt m x)
-  genusAgrees x d =
+  numbersAgree :
+      (x : ℕ) → Mem x (m .darts) → (genus (componentAt n x) ≡ genus (componentAt m x)) ×
+      ((c : Kind) → orbits (componentAt n x) c ≡ orbits (componentAt m x) c)
+  numbersAgree x d =
       let p = sameComponent m x in
       let same = componentsAlike m n x (componentAgrees x d) in
-      ap genus same ∙ agree (componentAt m x) (restrict p n) (componentHypermap m wf x d)
+      let answers = agree (componentAt m x) (restrict p n) (componentHypermap m wf x d)
       (subst (λ o. isHypermap o ≡ true) same (componentHypermap n wf′ x (rw (g .darts) d))) (ap (keep p) (g .darts))
       (λ k y i. g .next k y (memKept p (m .darts) y i .0))
-      (λ k y i. g .back k y (memKept p (m .darts) y i .0)) .sameGenus
+      (λ k y i. g .back k y (memKept p (m .darts) y i .0)) in
+      (ap genus same ∙ answers .sameGenus, λ c. ap (λ o. orbits o c) same ∙ answers .orbitCounts c)
 
   pub partedAgrees :
       (o : Hypermap) (l : DoubleLink) (ls : List DoubleLink) → m .darts ≡ o .darts → Mem (l .first) (m .darts) →
@@ -81,14 +84,18 @@ module _ (m n : Hypermap) (wf : isHypermap m ≡ true) (wf′ : isHypermap n ≡
         ap (λ c. allLinks (λ k. among (k .second) c) (l ∷ ls)) (answersAgree .sameComponents (l .second) d′) ∙
         p .seconds;
     whole = λ x. rw (componentAgrees (l .first) d x, componentAgrees (l .second) d′ x) (p .whole x);
-    firstPlanar = ap (λ k. eqb k 0) (genusAgrees (l .first) d) ∙ p .firstPlanar;
-    secondPlanar = ap (λ k. eqb k 0) (genusAgrees (l .second) d′) ∙ p .secondPlanar;
+    firstPlanar = ap (λ k. eqb k 0) (numbersAgree (l .first) d .0) ∙ p .firstPlanar;
+    secondPlanar = ap (λ k. eqb k 0) (numbersAgree (l .second) d′ .0) ∙ p .secondPlanar;
     others = λ x i t.
         let s = p .others x i t in
         let j : Mem x (m .darts) = rw e i in
+        let a = numbersAgree x j in
         record {
-          sameDarts = λ y. componentAgrees x j y ∙ s .sameDarts y;
-          sameGenus = genusAgrees x j ∙ s .sameGenus;
+          component = record {
+            sameDarts = λ y. componentAgrees x j y ∙ s .component .sameDarts y;
+            sameGenus = a .0 ∙ s .component .sameGenus;
+          };
+          sameOrbits = λ c. a .1 c ∙ s .sameOrbits c;
         };
     oneMore = answersAgree .componentCount ∙ p .oneMore;
   }

@@ -4,17 +4,17 @@ use mathlib.Core.Path.{_≡_, refl, ap, sym, _∙_, subst, fun-ext}
 use mathlib.Core.Bool.{Bool, true, false}
 use mathlib.Core.List.{List, [], _∷_}
 use Prim.Native.Nat.{ℕ}
-use Rattle.hypermap.specs.Hypermap.{Dimension, edge, vertex, Hypermap, isHypermap, sameComponent, genus, restrict}
-use Rattle.hypermap.specs.Hypermap.{componentAt}
+use Rattle.hypermap.specs.Hypermap.{Dimension, edge, vertex, Hypermap, isHypermap, sameComponent, orbits, genus}
+use Rattle.hypermap.specs.Hypermap.{restrict, componentAt}
 use Rattle.hypermap.specs.Change.{swap, swapIn, change}
-use Rattle.hypermap.specs.Laws.{compose}
-use Rattle.hypermap.specs.RingLaws.{SameComponent}
+use Rattle.hypermap.specs.Laws.{compose, Closed}
+use Rattle.hypermap.specs.RingLaws.{Untouched}
 use Rattle.hypermap.proofs.Basics.Bools.{clash, boolExt}
 use Rattle.hypermap.proofs.Basics.Lists.{Mem, memKept}
 use Rattle.hypermap.proofs.Hypermaps.Totals.{links}
 use Rattle.hypermap.proofs.Laws.Components.{componentLaw}
 use Rattle.hypermap.proofs.Hypermaps.Agreeing.{agree}
-use Rattle.hypermap.proofs.Hypermaps.Restricting.{Closed, componentClosed, componentHypermap}
+use Rattle.hypermap.proofs.Hypermaps.Restricting.{componentClosed, componentHypermap}
 use Rattle.hypermap.proofs.Permutations.Splicing.{swapCases, swapFirst, swapSecond, swapElse, swapInElse}
 use Rattle.hypermap.proofs.Permutations.Splicing.{swapInInside}
 use Rattle.hypermap.proofs.Laws.Changes.{changeHypermap}
@@ -63,16 +63,16 @@ module _
       (λ u. let c = i .0 u in j .1 (c .0, sym (composeSame (c .0) x d t) ∙ c .1))
       (λ u. let c = j .0 u in i .1 (c .0, composeSame (c .0) x d t ∙ c .1))
 
-  pub changeElsewhere : SameComponent m n x
+  pub changeElsewhere : Untouched m n x
   changeElsewhere =
       let same = componentsAlike m n x sameDarts in
+      let answers = agree (componentAt m x) (restrict p n) (componentHypermap m wf x d)
+      (subst (λ o. isHypermap o ≡ true) same (componentHypermap n wf′ x d)) refl
+      (λ j y i. let u = memKept p (m .darts) y i in onNext j y (u .0) (u .1))
+      (λ j y i. ap (m .back j) (fixed j y (memKept p (m .darts) y i .1))) in
       record {
-        sameDarts = sameDarts;
-        sameGenus =
-            ap genus same ∙ agree (componentAt m x) (restrict p n) (componentHypermap m wf x d)
-            (subst (λ o. isHypermap o ≡ true) same (componentHypermap n wf′ x d)) refl
-            (λ j y i. let u = memKept p (m .darts) y i in onNext j y (u .0) (u .1))
-            (λ j y i. ap (m .back j) (fixed j y (memKept p (m .darts) y i .1))) .sameGenus;
+        component = record { sameDarts = sameDarts; sameGenus = ap genus same ∙ answers .sameGenus };
+        sameOrbits = λ c. ap (λ o. orbits o c) same ∙ answers .orbitCounts c;
       }
 
 -- WITHIN a closed set

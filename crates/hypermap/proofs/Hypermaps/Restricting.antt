@@ -3,20 +3,28 @@
 use mathlib.Core.Path.{_≡_, refl, ap, _∙_, fun-ext}
 use mathlib.Core.Bool.{Bool, true}
 use mathlib.Core.List.{List, [], _∷_}
-use Prim.Native.Nat.{ℕ}
+use Prim.Native.Nat.{ℕ, zero, suc}
 use native.Mathlib.Omega.{arith}
-use Rattle.hypermap.specs.Hypermap.{Dimension, Hypermap, isHypermap, Kind, of, face, orbitOf, sameComponent}
-use Rattle.hypermap.specs.Hypermap.{restrict, componentAt}
-use Rattle.hypermap.specs.Laws.{compose, Equivalence}
+use Rattle.hypermap.specs.Hypermap.{Dimension, edge, vertex, Hypermap, isHypermap, Kind, of, face, step, orbitOf}
+use Rattle.hypermap.specs.Hypermap.{sameOrbit, sameComponent, restrict, componentAt}
+use Rattle.hypermap.specs.Laws.{iterate, compose, Equivalence, Closed}
 use Rattle.hypermap.proofs.Basics.Bools.{boolExt}
-use Rattle.hypermap.proofs.Basics.Lists.{Mem, keepMem, memKept, keepKeep, keepShorter, risingKeep}
+use Rattle.hypermap.proofs.Basics.Lists.{Mem, keepMem, memKept, keepExt, keepAll, keepKeep, keepShorter}
+use Rattle.hypermap.proofs.Basics.Lists.{risingKeep}
 use Rattle.hypermap.proofs.Hypermaps.Totals.{hypermapOf, up, fit, links}
 use Rattle.hypermap.proofs.Laws.Components.{componentLaw}
+use Rattle.hypermap.proofs.Laws.Orbits.{orbitLaw}
 
--- with a dart, p holds the darts that it is linked with
-pub record Closed (m : Hypermap) (p : ℕ → Bool) : Type 0 where
-  pub forth : (k : Dimension) (x : ℕ) → Mem x (m .darts) → p x ≡ true → p (m .next k x) ≡ true
-  pub back : (k : Dimension) (x : ℕ) → Mem x (m .darts) → p x ≡ true → p (m .back k x) ≡ true
+-- a restriction looks at the darts only
+pub restrictExt :
+    (m : Hypermap) (p q : ℕ → Bool) → ((x : ℕ) → Mem x (m .darts) → p x ≡ q x) → restrict p m ≡ restrict q m
+restrictExt m p q h =
+    ap (λ ds. record { darts = ds; next = m .next; back = m .back; fuel = m .fuel }) (keepExt p q (m .darts) h)
+
+pub restrictAll : (m : Hypermap) (p : ℕ → Bool) → ((x : ℕ) → Mem x (m .darts) → p x ≡ true) → restrict p m ≡ m
+restrictAll m p h =
+    restrictExt m p (λ x. true) h ∙
+    ap (λ ds. record { darts = ds; next = m .next; back = m .back; fuel = m .fuel }) (keepAll (m .darts))
 
 -- an orbit does not depend on the list of darts
 pub orbitRestrict : (m : Hypermap) (p : ℕ → Bool) (c : Kind) → orbitOf (restrict p m) c ≡ orbitOf m c
@@ -43,7 +51,21 @@ module _ (m : Hypermap) (wf : isHypermap m ≡ true) (p : ℕ → Bool) (closed 
       let j = componentLaw m wf .0 x d .members y in
       boolExt (sameComponent (restrict p m) x y) (sameComponent m x y) (λ u. j .1 (i .0 u)) (λ u. i .1 (j .0 u))
 
-  -- a component that meets p lies in it
+  -- an orbit or a component that meets p lies in it
+  stepIn : (c : Kind) (x : ℕ) → Mem x (m .darts) → p x ≡ true → Mem (step m c x) (m .darts) × (p (step m c x) ≡ true)
+  stepIn (of k) x d t = (links m wf k .keepsBack x d, closed .forth k x d t)
+  stepIn face x d t =
+      let i = links m wf edge .keeps x d in
+      let u = closed .back edge x d t in
+      (links m wf vertex .keeps (m .back edge x) i, closed .back vertex (m .back edge x) i u)
+
+  pub closedOrbit : (c : Kind) (x y : ℕ) → Mem x (m .darts) → p x ≡ true → sameOrbit m c x y ≡ true → p y ≡ true
+  closedOrbit c x y d t u = let o = orbitLaw m wf c .0 x d .members y .0 u in go (o .0) x d t (o .1)
+    where
+      go : (k x : ℕ) → Mem x (m .darts) → p x ≡ true → iterate k (step m c) x ≡ y → p y ≡ true
+      go zero x d t e = rw e at t
+      go (suc k) x d t e = let i = stepIn c x d t in go k (step m c x) (i .0) (i .1) e
+
   pub closedComponent : (x y : ℕ) → Mem x (m .darts) → p x ≡ true → sameComponent m x y ≡ true → p y ≡ true
   closedComponent x y d t u = let c = componentLaw m wf .0 x d .members y .0 u in go (c .0) x d t (c .1)
     where

@@ -111,7 +111,7 @@ cutKeeps m wf l t x d = byCases (sameComponent m x (l .first)) within elsewhere
     elsewhere u =
         changeElsewhere m wf edge (l .first) (l .second) (t .inFirst) (t .inSecond) x d u
         (refuted (sameComponent m x (l .second)) (λ v. clash
-        (q .transitive x (l .second) (l .first) d v (q .symmetric (l .first) (l .second) (t .inFirst) e)) u))
+        (q .transitive x (l .second) (l .first) d v (q .symmetric (l .first) (l .second) (t .inFirst) e)) u)) .component
 
 pub sameVia :
     (m n o : Hypermap) (x : ℕ) → SameComponent m n x → SameComponent n o x → SameComponent m o x

@@ -4,15 +4,14 @@
 use mathlib.Core.Path.{_≡_, ap, sym, _∙_, subst, fun-ext}
 use mathlib.Core.Bool.{Bool, true}
 use mathlib.Core.List.{List}
-use Prim.Native.Nat.{ℕ, _≤_}
+use Prim.Native.Nat.{ℕ, _+_, _≤_}
 use native.Mathlib.Omega.{arith}
 use lib.ListN.{length}
-use Rattle.hypermap.specs.Lists.{keep, sumOf}
+use Rattle.hypermap.specs.Lists.{keep, sumOf, sumOfIntegers}
 use Rattle.hypermap.specs.Hypermap.{edge, vertex, Hypermap, isHypermap, Kind, of, face, orbitOf, componentOf}
-use Rattle.hypermap.specs.Hypermap.{sameComponent, isLeastIn, leastDarts, orbits, components, genus}
-use Rattle.hypermap.specs.Hypermap.{restrict, componentAt}
-use Rattle.hypermap.specs.Laws.{IsConnected, ComponentGenusLaw}
-use Rattle.hypermap.specs.Laws.{sumOverComponents}
+use Rattle.hypermap.specs.Hypermap.{sameComponent, isLeastIn, orbits, edges, vertices, faces, components}
+use Rattle.hypermap.specs.Hypermap.{allOrbits, characteristic, genus, restrict, componentAt}
+use Rattle.hypermap.specs.Laws.{componentRoots, sumOverComponents, IsConnected, ComponentGenusLaw}
 use Rattle.hypermap.proofs.Basics.Bools.{boolExt}
 use Rattle.hypermap.proofs.Basics.Lists.{Mem, keepMem, memKept, keepAll, risingKeep, risingDistinct}
 use Rattle.hypermap.proofs.Hypermaps.Totals.{up}
@@ -21,7 +20,8 @@ use Rattle.hypermap.proofs.Laws.Counts.{countLaw}
 use Rattle.hypermap.proofs.Hypermaps.Restricting.{orbitRestrict, restrictComponent, componentClosed}
 use Rattle.hypermap.proofs.Hypermaps.Restricting.{componentHypermap}
 use Rattle.hypermap.proofs.Laws.GenusTheorem.{eulerEquation}
-use Rattle.hypermap.proofs.Basics.Sums.{sumExt, sumMember, sumBalance, keptOne, sumOfParts}
+use Rattle.hypermap.proofs.Basics.Sums.{sumExt, sumMember, sumOnes, sumBoth, sumDifferences, sumBalance}
+use Rattle.hypermap.proofs.Basics.Sums.{keptOne, sumOfParts}
 
 -- ONE COMPONENT
 module _ (m : Hypermap) (wf : isHypermap m ≡ true) (x : ℕ) (d : Mem x (m .darts)) where
@@ -31,7 +31,7 @@ module _ (m : Hypermap) (wf : isHypermap m ≡ true) (x : ℕ) (d : Mem x (m .da
   isC : isHypermap c ≡ true
   isC = componentHypermap m wf x d
 
-  inC : Mem x (c .darts)
+  pub inC : Mem x (c .darts)
   inC = keepMem (sameComponent m x) (m .darts) x d (componentLaw m wf .1 .reflexive x d)
 
   -- all its darts lie with x
@@ -48,7 +48,7 @@ module _ (m : Hypermap) (wf : isHypermap m ≡ true) (x : ℕ) (d : Mem x (m .da
       (componentLaw c isC .1 .within x (l .least) inC (l .member)) (l .counted)
       (λ y i t. l .unique y (together y i) t)
 
-  isConnected : IsConnected c
+  pub isConnected : IsConnected c
   isConnected = record {
     hypermap = isC;
     one = one;
@@ -58,9 +58,9 @@ module _ (m : Hypermap) (wf : isHypermap m ≡ true) (x : ℕ) (d : Mem x (m .da
 -- ALL COMPONENTS
 module _ (m : Hypermap) (wf : isHypermap m ≡ true) where
   abbrev roots : List ℕ
-  roots = leastDarts m (componentOf m)
+  roots = componentRoots m
 
-  rootDart : (x : ℕ) → Mem x roots → Mem x (m .darts)
+  pub rootDart : (x : ℕ) → Mem x roots → Mem x (m .darts)
   rootDart x i = memKept (isLeastIn (componentOf m)) (m .darts) x i .0
 
   rootOf : (x : ℕ) → Mem x (m .darts) → (r : ℕ) × Mem r roots × (sameComponent m r x ≡ true)
@@ -82,20 +82,36 @@ module _ (m : Hypermap) (wf : isHypermap m ≡ true) where
       (risingDistinct roots (risingKeep (isLeastIn (componentOf m)) (m .darts) (up m wf))) (r .1) (r .2)
       (λ x i t. l .unique x (q .symmetric x y (rootDart x i) t) (memKept (isLeastIn (componentOf m)) (m .darts) x i .1))
 
-  parts :
+  -- the darts that pass a test, counted in each component
+  pub sumKept :
       (p : ℕ → Bool) →
       sumOf (λ r. length (keep p (keep (sameComponent m r) (m .darts)))) roots ≡ length (keep p (m .darts))
-  parts p = sumOfParts (sameComponent m) p roots (m .darts) oneRoot
+  sumKept p = sumOfParts (sameComponent m) p roots (m .darts) oneRoot
 
   sumDarts : sumOverComponents m (λ c. length (c .darts)) ≡ length (m .darts)
   sumDarts =
-      sumExt _ _ roots (λ r i. sym (ap length (keepAll (keep (sameComponent m r) (m .darts))))) ∙ parts (λ x. true) ∙
+      sumExt _ _ roots (λ r i. sym (ap length (keepAll (keep (sameComponent m r) (m .darts))))) ∙ sumKept (λ x. true) ∙
       ap length (keepAll (m .darts))
 
   sumOrbits : (o : Kind) → sumOverComponents m (λ c. orbits c o) ≡ orbits m o
   sumOrbits o =
       sumExt _ _ roots (λ r i. ap (λ f. length (keep (isLeastIn f) (keep (sameComponent m r) (m .darts))))
-      (orbitRestrict m (sameComponent m r) o)) ∙ parts (isLeastIn (orbitOf m o))
+      (orbitRestrict m (sameComponent m r) o)) ∙ sumKept (isLeastIn (orbitOf m o))
+
+  sumComponents : sumOverComponents m components ≡ components m
+  sumComponents = sumOnes (λ r. components (componentAt m r)) roots (λ r i. isConnected m wf r (rootDart r i) .one)
+
+  sumOrbitsAll : sumOverComponents m allOrbits ≡ allOrbits m
+  sumOrbitsAll =
+      sumBoth (λ r. vertices (componentAt m r) + edges (componentAt m r)) (λ r. faces (componentAt m r)) roots ∙
+      ap (λ n. n + sumOverComponents m faces)
+      (sumBoth (λ r. vertices (componentAt m r)) (λ r. edges (componentAt m r)) roots) ∙
+      cc (sumOrbits (of vertex), sumOrbits (of edge), sumOrbits face)
+
+  sumCharacteristic : sumOfIntegers (λ r. characteristic (componentAt m r)) roots ≡ characteristic m
+  sumCharacteristic =
+      sumDifferences (λ r. allOrbits (componentAt m r)) (λ r. length (componentAt m r .darts)) roots ∙
+      cc (sumOrbitsAll, sumDarts)
 
   sumGenus : sumOverComponents m genus ≡ genus m
   sumGenus =
@@ -104,19 +120,33 @@ module _ (m : Hypermap) (wf : isHypermap m ≡ true) where
       (λ r i. isConnected m wf r (rootDart r i) .euler) in
       omega (arith, b, sumOrbits (of vertex), sumOrbits (of edge), sumOrbits face, sumDarts, eulerEquation m wf)
 
+-- the darts of a component have it in common
+pub componentShared :
+    (m : Hypermap) (wf : isHypermap m ≡ true) (x y : ℕ) → Mem x (m .darts) → sameComponent m x y ≡ true →
+    componentAt m y ≡ componentAt m x
+componentShared m wf x y d t =
+    let q = componentLaw m wf .1 in
+    let i = q .within x y d t in
+    ap (λ p. restrict p m) (fun-ext (λ z. boolExt (sameComponent m y z) (sameComponent m x z)
+    (λ u. q .transitive x y z d t u) (λ u. q .transitive y x z i (q .symmetric x y d t) u)))
+
 -- no component has more genus than the whole
 pub genusBelow :
     (m : Hypermap) (wf : isHypermap m ≡ true) (x : ℕ) → Mem x (m .darts) → genus (componentAt m x) ≤ genus m
 genusBelow m wf x d =
-    let q = componentLaw m wf .1 in
     let r = rootOf m wf x d in
-    let i = rootDart m wf (r .0) (r .1) in
-    let same : componentAt m x ≡ componentAt m (r .0) = ap (λ p. restrict p m) (fun-ext (λ y.
-    boolExt (sameComponent m x y) (sameComponent m (r .0) y) (λ t. q .transitive (r .0) x y i (r .2) t)
-    (λ t. q .transitive x (r .0) y d (q .symmetric (r .0) x i (r .2)) t))) in
+    let same = componentShared m wf (r .0) x (rootDart m wf (r .0) (r .1)) (r .2) in
     let below = sumMember (λ y. genus (componentAt m y)) (roots m wf) (r .0) (r .1) in
     subst (λ c. genus c ≤ genus m) (sym same) (omega (arith, below, sumGenus m wf))
 
 pub componentGenusLaw : ComponentGenusLaw
-componentGenusLaw m wf =
-    (isConnected m wf, record { darts = sumDarts m wf; orbits = sumOrbits m wf; genus = sumGenus m wf })
+componentGenusLaw m wf = (
+  isConnected m wf,
+  record {
+    darts = sumDarts m wf;
+    orbits = sumOrbits m wf;
+    components = sumComponents m wf;
+    characteristic = sumCharacteristic m wf;
+    genus = sumGenus m wf;
+  },
+)

@@ -12,17 +12,17 @@ use Rattle.hypermap.specs.Hypermap.{edge, Hypermap, isDart, isHypermap, 
 use Rattle.hypermap.specs.Hypermap.{isPlanar}
 use Rattle.hypermap.specs.Hypermap.{restrict, componentAt}
 use Rattle.hypermap.specs.Change.{change}
-use Rattle.hypermap.specs.Laws.{Connects, Equivalence}
+use Rattle.hypermap.specs.Laws.{Connects, Equivalence, Closed}
 use Rattle.hypermap.specs.Ring.{DoubleLink, isDoubleLink, areAdjacent, allLinks, unicity, continuity, closure}
 use Rattle.hypermap.specs.Ring.{simplicity, isRing, pairsDiffer, breakAlong}
-use Rattle.hypermap.specs.RingLaws.{SameComponent, IsParted, IsBroken, JordanTheorem, PlanarJordanTheorem}
+use Rattle.hypermap.specs.RingLaws.{Untouched, IsParted, IsBroken, JordanTheorem, PlanarJordanTheorem}
 use Rattle.hypermap.proofs.Basics.Bools.{clash, boolExt, refuted, orCases, orLeft, orRight, andLeft, andRight}
 use Rattle.hypermap.proofs.Basics.Bools.{andTrue}
 use Rattle.hypermap.proofs.Basics.Lists.{Mem, keepMem}
 use Rattle.hypermap.proofs.Permutations.Connecting.{Steps, connectVia}
 use Rattle.hypermap.proofs.Hypermaps.Totals.{backs}
 use Rattle.hypermap.proofs.Laws.Components.{componentLaw}
-use Rattle.hypermap.proofs.Hypermaps.Restricting.{Closed, restrictHypermap, restrictComponent, componentRestrict}
+use Rattle.hypermap.proofs.Hypermaps.Restricting.{restrictHypermap, restrictComponent, componentRestrict}
 use Rattle.hypermap.proofs.Hypermaps.Restricting.{componentClosed, componentHypermap}
 use Rattle.hypermap.proofs.Laws.Changes.{changeHypermap}
 use Rattle.hypermap.proofs.Hypermaps.Elsewhere.{changeElsewhere, changeClosed}
@@ -55,16 +55,23 @@ Outside m x l = (sameComponent m x (l .first) ≡ false) × (sameComponent m x (
 
 breakElsewhere :
     (x : ℕ) (ls : List DoubleLink) (m : Hypermap) → isHypermap m ≡ true → Mem x (m .darts) →
-    Each (InDarts (m .darts)) ls → Each (Outside m x) ls → SameComponent m (breakAlong ls m) x
+    Each (InDarts (m .darts)) ls → Each (Outside m x) ls → Untouched m (breakAlong ls m) x
 unfolding breakAlong
-breakElsewhere x [] m wf d i t = record { sameDarts = λ y. refl; sameGenus = refl }
+breakElsewhere x [] m wf d i t = record {
+  component = record { sameDarts = λ y. refl; sameGenus = refl };
+  sameOrbits = λ c. refl;
+}
 breakElsewhere x (l ∷ ls) m wf d i t =
     let s = changeElsewhere m wf edge (l .first) (l .second) (i .0 .inFirst) (i .0 .inSecond) x d (t .0 .0) (t .0 .1) in
     let n = change edge (l .first) (l .second) m in
-    sameVia m n (breakAlong ls n) x s
-    (breakElsewhere x ls n (changeHypermap m edge (l .first) (l .second) wf (i .0 .inFirst) (i .0 .inSecond)) d (i .1)
-    (mapEach (Outside m x) (Outside n x)
-    (λ k u. (s .sameDarts (k .first) ∙ u .0, s .sameDarts (k .second) ∙ u .1)) ls (t .1)))
+    let same = s .component .sameDarts in
+    let rest = breakElsewhere x ls n
+    (changeHypermap m edge (l .first) (l .second) wf (i .0 .inFirst) (i .0 .inSecond)) d (i .1)
+    (mapEach (Outside m x) (Outside n x) (λ k u. (same (k .first) ∙ u .0, same (k .second) ∙ u .1)) ls (t .1)) in
+    record {
+      component = sameVia m n (breakAlong ls n) x (s .component) (rest .component);
+      sameOrbits = λ c. rest .sameOrbits c ∙ s .sameOrbits c;
+    }
 
 continuityRestrict :
     (p : ℕ → Bool) (m : Hypermap) (l : DoubleLink) (ls : List DoubleLink) →

@@ -35,6 +35,7 @@ loop-again c =
     (c .if2 .came)
 
 returns : tie.Need-returns Inv-loop μ-loop
+unfolding isAlone
 returns c =
     let l = c .before .before in
     let w = l .before .before .before .args .table .now in

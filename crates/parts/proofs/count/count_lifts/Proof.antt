@@ -1,4 +1,6 @@
 use native.Mathlib.Omega.{arith}
+use Rattle.table.specs.Layout.{hypermapOf}
+use Rattle.table.proofs.Soundness.{soundHypermap}
 use Rattle.parts.proofs.Lifting.{liftsLaw}
 use Rattle.parts.proofs.count.count_lifts.Statement.{statement}
 use Rattle.parts.proofs.count.count_lifts.Tie as tie
@@ -9,12 +11,12 @@ count-alone-requires c κs = c .before .pre .counted
 sub-result : tie.Need-sub-result
 sub-result c =
     let p = c .before .before .pre in
-    omega (arith, liftsLaw _ (p .counted .sound), p .isComponents, c .count-alone .ensures)
+    omega (arith, liftsLaw (hypermapOf _) (soundHypermap _ (p .counted .sound)), p .isComponents, c .count-alone .ensures)
 
 returns : tie.Need-returns
 returns c =
     let p = c .before .before .pre in
-    omega (arith, liftsLaw _ (p .counted .sound), p .isComponents, c .count-alone .ensures)
+    omega (arith, liftsLaw (hypermapOf _) (soundHypermap _ (p .counted .sound)), p .isComponents, c .count-alone .ensures)
 
 pub count-lifts-spec : {M : Type 1} → statement M
 count-lifts-spec = tie.close (tie.spec count-alone-requires sub-result returns)

@@ -8,15 +8,15 @@ use Rattle.hypermap.specs.Hypermap.{orbitOf, sameOrbit}
 use Rattle.hypermap.specs.Laws.{Equivalence}
 use Rattle.table.specs.Layout.{hypermapOf}
 use Rattle.table.specs.Inner.{kindOf}
-use Rattle.parts.proofs.Marking.{Passed, passedNone, passedMark, freshMarking, passedFresh, passedOther}
-use Rattle.parts.proofs.Marking.{passedAll}
+use Rattle.parts.proofs.Marking.{passedMark, freshMarking, passedOther}
+use Rattle.parts.proofs.Marking.{PassedLeast, PassLeast, leastPass, leastNone, leastOn, leastAll}
 use Rattle.parts.proofs.Walking.{orbitParts}
 use Rattle.parts.proofs.marks.mark_orbits.Statement.{statement}
 use Rattle.parts.proofs.marks.mark_orbits.Tie as tie
 
 abbrev Inv-loop : tie.InvT-loop
 Inv-loop table orbit marks₀ n count₀ x₀ marks count x =
-    Passed table (orbitOf (hypermapOf table) (kindOf orbit)) x count marks
+    PassedLeast table (orbitOf (hypermapOf table) (kindOf orbit)) x count marks
 
 abbrev μ-loop : tie.MeasureT-loop
 μ-loop table orbit marks₀ n count₀ x₀ marks count x = n + 1 - x
@@ -29,38 +29,44 @@ parts :
     (sameOrbit (hypermapOf (s .args .table .now)) (kindOf (s .args .orbit)))
 parts s = orbitParts _ (s .pre .sound) (kindOf (s .args .orbit))
 
+pass :
+    (s : tie.Start Inv-loop μ-loop) → PassLeast (s .args .table .now)
+    (orbitOf (hypermapOf (s .args .table .now)) (kindOf (s .args .orbit)))
+pass s = leastPass _ _ (parts s)
+
 loop-holds : tie.Need-loop-holds Inv-loop μ-loop
 loop-holds c =
     let s = c .before .before .before .before .before .before .before in
-    passedNone _ _ (parts s) _ (c .before .before .before .clear .ensures ∙ ap (λ n. replicate n 0) (s .pre .size))
+    leastNone _ _ (parts s) _ (c .before .before .before .clear .ensures ∙ ap (λ n. replicate n 0) (s .pre .size))
 
 is-fresh-requires : tie.Need-is-fresh-requires Inv-loop μ-loop
 is-fresh-requires c κs =
     let l = c .before .before .before in
-    passedMark _ _ (parts (start l)) _ _ _ (l .loop .inv) (omega arith)
+    passedMark _ _ _ _ _ _ (pass (start l)) _ (omega arith) _ _ _ (l .loop .inv) (omega arith)
 
 mark-orbit-requires : tie.Need-mark-orbit-requires Inv-loop μ-loop
 mark-orbit-requires c κs =
     let f = c .before .before in
     let l = f .before .before .before .before in
-    freshMarking _ _ (parts (start l)) _ _ _ (l .loop .inv) (omega arith)
+    freshMarking _ _ _ _ _ _ (pass (start l)) _ (omega arith) _ _ _ (l .loop .inv) (omega arith)
     (sym (f .is-fresh .ensures) ∙ c .before .if2 .taken) (start l .pre .sound)
 
 loop-again : tie.Need-loop-again Inv-loop μ-loop
 loop-again c =
     let l = c .before .before .before .before .before in
-    let q = parts (start l) in
+    let q = pass (start l) in
+    let r = parts (start l) in
     let e = sym (c .before .is-fresh .ensures) in
     ⊎-elim
-    (λ k. rw (k .5, k .6) (passedFresh _ _ q _ _ _ (l .loop .inv) (omega arith) (e ∙ k .0 .taken) _
-    (k .2 .kept .1 .1 .1 .0) (k .2 .ensures)))
-    (λ k. rw (k .1, k .2) (passedOther _ _ q _ _ _ (l .loop .inv) (omega arith) (e ∙ k .0 .left)))
+    (λ k. rw (k .5, k .6) (leastOn _ _ r _ _ _ (l .loop .inv) (omega arith) (e ∙ k .0 .taken) _
+    (k .2 .kept .1 .1 .1 .1 .0) (k .2 .ensures)))
+    (λ k. rw (k .1, k .2) (passedOther _ _ _ _ _ _ q _ (omega arith) _ _ _ (l .loop .inv) (omega arith) (e ∙ k .0 .left)))
     (c .if2 .came)
 
 returns : tie.Need-returns Inv-loop μ-loop
 returns c =
     let l = c .before .before in
-    passedAll _ _ (parts (start l)) _ _ _ (l .loop .inv) (omega arith)
+    leastAll _ _ (parts (start l)) _ _ _ (l .loop .inv) (omega arith)
 
 pub mark-orbits-spec : {M : Type 1} → statement M
 mark-orbits-spec =

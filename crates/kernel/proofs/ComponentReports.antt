@@ -1,0 +1,96 @@
+-- The promises of the report of one component: it is the hypermap of that component that is counted, which is connected,
+-- and over all components the counts add up. Assumes nothing.
+use mathlib.Core.Path.{_≡_, refl, sym, ap, _∙_}
+use mathlib.Core.Bool.{true}
+use mathlib.Core.List.{[], _∷_}
+use Prim.Native.Nat.{ℕ}
+use lib.ListN.{length}
+use Rattle.hypermap.specs.Lists.{sumOf, sumOfIntegers}
+use Rattle.hypermap.specs.Hypermap.{edge, vertex, Hypermap, isHypermap, of, face, edges, vertices, faces, components}
+use Rattle.hypermap.specs.Hypermap.{genus, componentAt}
+use Rattle.hypermap.specs.Laws.{componentRoots, sumOverComponents, IsConnected, AddsUp}
+use Rattle.hypermap.proofs.Basics.Lists.{Mem}
+use Rattle.hypermap.proofs.Basics.Sums.{sumExt, sumOfIntegersExt}
+use Rattle.hypermap.proofs.Laws.Components.{componentLaw}
+use Rattle.hypermap.proofs.Laws.ComponentGenus.{componentShared, rootDart, componentGenusLaw}
+use Rattle.table.specs.Layout.{Table, isSound, hypermapOf}
+use Rattle.table.proofs.Soundness.{memPresent, soundHypermap}
+use Rattle.parts.specs.Counts.{lifts}
+use Rattle.parts.specs.Sharing.{isSame}
+use Rattle.parts.specs.declared.Part.the-variants.{Component}
+use Rattle.parts.proofs.Lifting.{liftsByDarts, liftsAddUp}
+use Rattle.kernel.specs.Calls.{tableFault, reportOn, reportOf, questionFault, componentReportOf}
+use Rattle.kernel.specs.ComponentReports.{IsOneComponent, sumOfReports, ReportsAddUp, ComponentPromise}
+use Rattle.kernel.specs.declared.Totals.{Totals}
+use Rattle.kernel.proofs.Judging.{Reported, tablePassed, planReported, reportPassed, dartReady, dartFits}
+use Rattle.kernel.proofs.Judging.{questionTable, componentPassed, componentReported}
+
+-- ONE
+module _ (w : Table) (x : ℕ) (z : questionFault w (x ∷ []) ≡ 0) where
+  wf : isHypermap (hypermapOf w) ≡ true
+  wf = soundHypermap w (dartReady w x z .sound)
+
+  dart : Mem x (hypermapOf w .darts)
+  dart = memPresent w x ∙ dartReady w x z .here
+
+  connected : IsConnected (componentAt (hypermapOf w) x)
+  connected = componentGenusLaw (hypermapOf w) wf .0 x dart
+
+  shared : (y : ℕ) → isSame w Component x y ≡ true → componentReportOf w y ≡ componentReportOf w x
+  shared y t =
+      let i = rw memPresent at (componentLaw (hypermapOf w) wf .1 .within x y dart t) in
+      let f = dartFits w y (questionTable w (x ∷ []) z) i in
+      ap (λ n. reportOn n (componentAt (hypermapOf w) y)) (f ∙ sym z) ∙
+      ap (reportOn (questionFault w (x ∷ []))) (componentShared (hypermapOf w) wf x y dart t)
+
+  oneComponent : IsOneComponent w x
+  oneComponent =
+      let r = componentReported w x z in
+      record {
+        components = r .components ∙ connected .one;
+        lifts = rw (r .lifts, r .darts) (liftsByDarts (hypermapOf w) wf x dart);
+        euler = rw (r .vertices, r .edges, r .faces, r .genus, r .darts) (connected .euler);
+        shared = shared;
+      }
+
+-- ALL
+module _ (w : Table) (t : tableFault w ≡ 0) where
+  abbrev m : Hypermap
+  m = hypermapOf w
+
+  wfAll : isHypermap m ≡ true
+  wfAll = soundHypermap w (tablePassed w t .sound)
+
+  sums : AddsUp m
+  sums = componentGenusLaw m wfAll .1
+
+  given : (x : ℕ) → Mem x (componentRoots m) → Reported (componentReportOf w x) (componentAt m x)
+  given x i = componentReported w x (dartFits w x t (rw memPresent at (rootDart m wfAll x i)))
+
+  sum :
+      (f : Totals → ℕ) (g : Hypermap → ℕ) →
+      ((x : ℕ) → Reported (componentReportOf w x) (componentAt m x) → f (componentReportOf w x) ≡ g (componentAt m x)) →
+      sumOfReports w f ≡ sumOverComponents m g
+  sum f g h = sumExt _ _ (componentRoots m) (λ x i. h x (given x i))
+
+  addsUp : ReportsAddUp w
+  addsUp =
+      let r = planReported w t in
+      record {
+        darts = sum (λ t. t .darts) (λ c. length (c .darts)) (λ x k. k .darts) ∙ sums .darts ∙ sym (r .darts);
+        edges = sum (λ t. t .edges) edges (λ x k. k .edges) ∙ sums .orbits (of edge) ∙ sym (r .edges);
+        vertices = sum (λ t. t .vertices) vertices (λ x k. k .vertices) ∙ sums .orbits (of vertex) ∙ sym (r .vertices);
+        faces = sum (λ t. t .faces) faces (λ x k. k .faces) ∙ sums .orbits face ∙ sym (r .faces);
+        components = sum (λ t. t .components) components (λ x k. k .components) ∙ sums .components ∙ sym (r .components);
+        characteristic =
+            sumOfIntegersExt _ _ (componentRoots m) (λ x i. given x i .characteristic) ∙ sums .characteristic ∙
+            sym (r .characteristic);
+        genus = sum (λ t. t .genus) genus (λ x k. k .genus) ∙ sums .genus ∙ sym (r .genus);
+        lifts = sum (λ t. t .lifts) lifts (λ x k. k .lifts) ∙ liftsAddUp m wfAll ∙ sym (r .lifts);
+      }
+
+pub componentPromise : ComponentPromise
+componentPromise = record {
+  one = λ w x e. oneComponent w x (componentPassed w x e);
+  all = λ w e. addsUp w (reportPassed w e);
+}

@@ -1,0 +1,244 @@
+-- Sets of darts told by a mark: what was painted on zeros is such a set, a pass over its orbits counts them and raises
+-- the mark, and the set stays the same. Assumes nothing.
+use mathlib.Core.Path.{_≡_, refl, sym, ap, _∙_}
+use mathlib.Core.Bool.{Bool, true, false, _&&_}
+use mathlib.Core.List.{List}
+use Prim.Native.Nat.{ℕ, _+_, _-_, _≤_, _<_}
+use native.Mathlib.Omega.{arith}
+use lib.Dec.{eqb}
+use lib.ListN.{length, getD, set, replicate, length-set}
+use borrow.Author.Tests.{eqb-true, eqb-false, eq-eqb, ne-eqb}
+use Rattle.hypermap.specs.Lists.{among, keep}
+use Rattle.hypermap.specs.Hypermap.{isDart, isHypermap, Kind, orbitOf, componentOf, isLeastIn, orbits, restrict}
+use Rattle.hypermap.specs.Hypermap.{componentAt}
+use Rattle.hypermap.specs.Laws.{Closed}
+use Rattle.hypermap.proofs.Basics.Bools.{byCases, clash, boolExt, refuted, andLeft, andRight, andTrue}
+use Rattle.hypermap.proofs.Basics.Lists.{Mem, keepExt, keepShorter}
+use Rattle.hypermap.proofs.Hypermaps.Totals.{links}
+use Rattle.hypermap.proofs.Hypermaps.Restricting.{restrictExt, restrictAll, orbitRestrict, restrictHypermap}
+use Rattle.hypermap.proofs.Hypermaps.Restricting.{closedOrbit, componentClosed}
+use Rattle.hypermap.proofs.Laws.Components.{componentLaw}
+use Rattle.table.specs.Layout.{Table, capacity, numbers, isPresent, isSound, hypermapOf}
+use Rattle.table.proofs.Soundness.{low, high, memPresent, soundHypermap, dartsFew}
+use Rattle.table.proofs.Zeros.{zeroAt}
+use Rattle.parts.specs.Inner.{markAt, HasMark, Painted, isMarked, markedIn, MarkedSet, Raised}
+use Rattle.parts.proofs.Counting.{keepBoth}
+use Rattle.parts.proofs.Marking.{setHere, setElse, Pass, Passed, passedNone, passedCount, passedInside}
+use Rattle.parts.proofs.Walking.{orbitParts}
+
+dartOne : (w : Table) (x : ℕ) → Mem x (hypermapOf w .darts) → 1 ≤ x
+dartOne w x d = low w x (rw memPresent at d)
+
+-- EACH DART below x is marked with 1
+pub record DartsMarked (w : Table) (before m : List ℕ) (x : ℕ) : Type 0 where
+  pub low : 1 ≤ x
+  pub high : x ≤ capacity w + 1
+  pub size : length m ≡ length before
+  pub below : (y : ℕ) → isPresent w y ≡ true → y < x → markAt m y ≡ 1
+  pub absent : (y : ℕ) → 1 ≤ y → isPresent w y ≡ false → markAt m y ≡ markAt before y
+
+module _ (w : Table) (before : List ℕ) where
+  pub dartsNone : DartsMarked w before before 1
+  dartsNone = record {
+    low = omega arith;
+    high = omega arith;
+    size = refl;
+    below = λ y p l. absurd (omega (arith, low w y p));
+    absent = λ y l f. refl;
+  }
+
+  module _ (m : List ℕ) (x : ℕ) (d : DartsMarked w before m x) where
+    pub dartsYes :
+        x ≤ capacity w → HasMark m x → isPresent w x ≡ true → DartsMarked w before (set m (x - 1) 1) (x + 1)
+    dartsYes h k p = record {
+      low = omega arith;
+      high = omega arith;
+      size = length-set m (x - 1) 1 ∙ d .size;
+      below = λ y q l. byCases (eqb y x)
+          (λ t. rw (eqb-true y x t) (setHere m x 1 k))
+          (λ t. let n = eqb-false y x t in setElse m x 1 k y (low w y q) n ∙ d .below y q (omega arith));
+      absent = λ y l f. setElse m x 1 k y l (λ e. clash p (rw (sym e) f)) ∙ d .absent y l f;
+    }
+
+    pub dartsNo : x ≤ capacity w → isPresent w x ≡ false → DartsMarked w before m (x + 1)
+    dartsNo h f = record {
+      low = omega arith;
+      high = omega arith;
+      size = d .size;
+      below = λ y q l. let n : y ≡ x → ⊥ = λ e. clash (rw e at q) f in d .below y q (omega arith);
+      absent = d .absent;
+    }
+
+    pub dartsAll : capacity w < x → Painted (hypermapOf w .darts) 1 before m
+    dartsAll h = record {
+      inside = λ y i. let p = rw memPresent at i in d .below y p (omega (arith, high w y p));
+      outside = λ y l f. d .absent y l (rw memPresent at f);
+    }
+
+-- PAINTED on zeros: the darts of a closed part
+module _
+    (w : Table) (s : isSound w ≡ true) (n : ℕ) (room : capacity w ≤ 4096) (size : capacity w ≤ n) (part : List ℕ)
+    (v : ℕ) (one : 1 ≤ v) (m : List ℕ) (long : length m ≡ n) (q : Painted part v (replicate n 0) m) where
+  paintedTest : (y : ℕ) → 1 ≤ y → isMarked m v y ≡ among y part
+  paintedTest y l =
+      byCases (among y part)
+      (λ t. rw t (eq-eqb (markAt m y) v (q .inside y t)))
+      (λ t. let e = q .outside y l t ∙ zeroAt n (y - 1) in rw t (ne-eqb (markAt m y) v (λ i. omega arith)))
+
+  pub paintedIs : markedIn w m v ≡ restrict (λ y. among y part) (hypermapOf w)
+  paintedIs =
+      restrictExt (hypermapOf w) (isMarked m v) (λ y. among y part) (λ y d. paintedTest y (dartOne w y d))
+
+  pub paintedSet :
+      ((y : ℕ) → among y part ≡ true → isPresent w y ≡ true) → Closed (hypermapOf w) (λ y. among y part) →
+      MarkedSet w m v
+  paintedSet darts closed = record {
+    sound = s;
+    room = record { room = room; size = omega arith };
+    darts = λ y l t. darts y (sym (paintedTest y l) ∙ t);
+    rest = λ y l t. q .outside y l (sym (paintedTest y l) ∙ t) ∙ zeroAt n (y - 1);
+    closed = record {
+      forth = λ k x d t. paintedTest _ (dartOne w _ (links (hypermapOf w) wf k .keepsBack x d)) ∙
+          closed .forth k x d (sym (paintedTest x (dartOne w x d)) ∙ t);
+      back = λ k x d t. paintedTest _ (dartOne w _ (links (hypermapOf w) wf k .keeps x d)) ∙
+          closed .back k x d (sym (paintedTest x (dartOne w x d)) ∙ t);
+    };
+  }
+    where
+      wf : isHypermap (hypermapOf w) ≡ true
+      wf = soundHypermap w s
+
+-- all darts, and one component
+module _
+    (w : Table) (s : isSound w ≡ true) (room : capacity w ≤ 4096) (n : ℕ) (size : capacity w ≤ n) (m : List ℕ)
+    (long : length m ≡ n) where
+  wfTable : isHypermap (hypermapOf w) ≡ true
+  wfTable = soundHypermap w s
+
+  module _ (q : Painted (hypermapOf w .darts) 1 (replicate n 0) m) where
+    pub allIs : markedIn w m 1 ≡ hypermapOf w
+    allIs =
+        paintedIs w s n room size (hypermapOf w .darts) 1 (omega arith) m long q ∙
+        restrictAll (hypermapOf w) (isDart (hypermapOf w)) (λ y d. d)
+
+    pub allSet : MarkedSet w m 1
+    allSet =
+        paintedSet w s n room size (hypermapOf w .darts) 1 (omega arith) m long q (λ y t. rw memPresent at t)
+        (record {
+          forth = λ k x d t. links (hypermapOf w) wfTable k .keepsBack x d;
+          back = λ k x d t. links (hypermapOf w) wfTable k .keeps x d;
+        })
+
+  module _ (x : ℕ) (here : isPresent w x ≡ true) (q : Painted (componentOf (hypermapOf w) x) x (replicate n 0) m) where
+    dart : Mem x (hypermapOf w .darts)
+    dart = rw memPresent here
+
+    pub componentIs : markedIn w m x ≡ componentAt (hypermapOf w) x
+    componentIs = paintedIs w s n room size (componentOf (hypermapOf w) x) x (low w x here) m long q
+
+    pub componentSet : MarkedSet w m x
+    componentSet =
+        paintedSet w s n room size (componentOf (hypermapOf w) x) x (low w x here) m long q
+        (λ y t. rw memPresent at (componentLaw (hypermapOf w) wfTable .1 .within x y dart t))
+        (componentClosed (hypermapOf w) wfTable x dart)
+
+-- the numbers of a marked set
+abbrev pub inSet : Table → (marks : List ℕ) → (value y : ℕ) → Bool
+inSet w m v y = isPresent w y && isMarked m v y
+
+-- a pass over its orbits of a kind, which raises the mark
+abbrev pub PassedMarked : Table → (marks : List ℕ) → (value : ℕ) → Kind → (x count : ℕ) → List ℕ → Type 0
+PassedMarked w m v c x count n =
+    Passed w (inSet w m v) (orbitOf (hypermapOf w) c) (markAt m) (λ y. v + 1) (length m) x count n
+
+abbrev pub PassMarked : Table → (marks : List ℕ) → (value : ℕ) → Kind → Type 0
+PassMarked w m v c = Pass w (inSet w m v) (orbitOf (hypermapOf w) c) (markAt m) (λ y. v + 1) (λ x u. eqb u v)
+
+-- A MARKED SET is a hypermap by itself, with few darts
+module _ (w : Table) (m : List ℕ) (v : ℕ) (k : MarkedSet w m v) where
+  wf : isHypermap (hypermapOf w) ≡ true
+  wf = soundHypermap w (k .sound)
+
+  pub markedHypermap : isHypermap (markedIn w m v) ≡ true
+  markedHypermap = restrictHypermap (hypermapOf w) wf (isMarked m v) (k .closed)
+
+  pub markedFew : length (markedIn w m v .darts) ≤ 4096
+  markedFew = omega (arith, keepShorter (isMarked m v) (hypermapOf w .darts), dartsFew w, k .room .room)
+
+  pub inSetTest : (y : ℕ) → 1 ≤ y → inSet w m v y ≡ isMarked m v y
+  inSetTest y l =
+      boolExt (inSet w m v y) (isMarked m v y) (andRight (isPresent w y) (isMarked m v y))
+      (λ t. andTrue (isPresent w y) (isMarked m v y) (k .darts y l t) t)
+
+  pub inSetAt : (i : ℕ) → inSet w m v (i + 1) ≡ eqb (getD m i 0) v
+  inSetAt i = inSetTest (i + 1) (omega arith) ∙ ap (λ j. eqb (getD m j 0) v) (omega arith)
+
+  pub inSetDarts : length (keep (inSet w m v) (numbers w)) ≡ length (markedIn w m v .darts)
+  inSetDarts = ap length (sym (keepBoth (isPresent w) (isMarked m v) (numbers w)))
+
+  module _ (c : Kind) where
+    pub markedPass : PassMarked w m v c
+    markedPass = record {
+      holds = record {
+        parts = orbitParts w (k .sound) c;
+        darts = λ x t. andLeft (isPresent w x) (isMarked m v x) t;
+        closed = λ x y t i.
+            let d : Mem x (hypermapOf w .darts) = rw memPresent (andLeft (isPresent w x) (isMarked m v x) t) in
+            andTrue (isPresent w y) (isMarked m v y) (rw memPresent at (orbitParts w (k .sound) c .within x y d i))
+            (closedOrbit (hypermapOf w) wf (isMarked m v) (k .closed) c x y d
+            (andRight (isPresent w x) (isMarked m v x) t) i);
+      };
+      shared = λ x y t i. refl;
+      unreached = λ x t. andRight (isPresent w x) (isMarked m v x) t;
+      reached = λ x t. ne-eqb (v + 1) v (λ e. omega arith);
+      others = λ x l t. sym (inSetTest x l) ∙ t;
+    }
+
+    pub markedNone : PassedMarked w m v c 1 0 m
+    markedNone =
+        passedNone w (inSet w m v) (orbitOf (hypermapOf w) c) (markAt m) (λ y. v + 1) (λ x u. eqb u v) markedPass (length m)
+        (k .room .size) m refl (λ y l. refl)
+
+    module _ (x count : ℕ) (n : List ℕ) (p : PassedMarked w m v c x count n) (h : capacity w < x) where
+      pub markedCount : count ≡ orbits (markedIn w m v) c
+      markedCount =
+          passedCount w (inSet w m v) (orbitOf (hypermapOf w) c) (markAt m) (λ y. v + 1) (λ x u. eqb u v) markedPass (length m)
+          (k .room .size) x count n p h ∙
+          ap (λ ds. length (keep (isLeastIn (orbitOf (hypermapOf w) c)) ds))
+          (sym (keepBoth (isPresent w) (isMarked m v) (numbers w))) ∙
+          ap (λ f. length (keep (isLeastIn f) (markedIn w m v .darts)))
+          (sym (orbitRestrict (hypermapOf w) (isMarked m v) c))
+
+      pub markedRaised : Raised v m n
+      markedRaised = record {
+        inside = λ y l t.
+            passedInside w (inSet w m v) (orbitOf (hypermapOf w) c) (markAt m) (λ y. v + 1) (λ x u. eqb u v) markedPass
+            (length m) (k .room .size) x count n p h y (inSetTest y l ∙ t);
+        outside = λ y l t. p .outside y l (inSetTest y l ∙ t);
+      }
+
+  -- RAISED, it is the same set
+  module _ (n : List ℕ) (long : length n ≡ length m) (r : Raised v m n) where
+    raisedTest : (y : ℕ) → 1 ≤ y → isMarked n (v + 1) y ≡ isMarked m v y
+    raisedTest y l =
+        byCases (isMarked m v y)
+        (λ t. rw t (eq-eqb (markAt n y) (v + 1) (r .inside y l t)))
+        (λ t. let e = r .outside y l t ∙ k .rest y l t in rw t (ne-eqb (markAt n y) (v + 1) (λ i. omega arith)))
+
+    pub raisedIs : markedIn w n (v + 1) ≡ markedIn w m v
+    raisedIs =
+        restrictExt (hypermapOf w) (isMarked n (v + 1)) (isMarked m v) (λ y d. raisedTest y (dartOne w y d))
+
+    pub raisedSet : MarkedSet w n (v + 1)
+    raisedSet = record {
+      sound = k .sound;
+      room = record { room = k .room .room; size = omega (arith, k .room .size) };
+      darts = λ y l t. k .darts y l (sym (raisedTest y l) ∙ t);
+      rest = λ y l t. let f = sym (raisedTest y l) ∙ t in r .outside y l f ∙ k .rest y l f;
+      closed = record {
+        forth = λ j x d t. raisedTest _ (dartOne w _ (links (hypermapOf w) wf j .keepsBack x d)) ∙
+            k .closed .forth j x d (sym (raisedTest x (dartOne w x d)) ∙ t);
+        back = λ j x d t. raisedTest _ (dartOne w _ (links (hypermapOf w) wf j .keeps x d)) ∙
+            k .closed .back j x d (sym (raisedTest x (dartOne w x d)) ∙ t);
+      };
+    }
