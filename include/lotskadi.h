@@ -52,7 +52,7 @@ enum {
     LOTSKADI_SCREEN_HEAD = 40     /* bytes before the rewritten tape */
 };
 
-/* What lotskadi_report returns. */
+/* What a report returns. */
 struct lotskadi_totals {
     uint8_t number; /* the refusal, or 0 */
     uint32_t tabs;
@@ -103,14 +103,21 @@ uint8_t lotskadi_vertex_join(uint16_t *table, size_t table_words, uint32_t a, ui
 uint8_t lotskadi_edge_cut(uint16_t *table, size_t table_words, uint32_t a, uint32_t b);
 uint8_t lotskadi_vertex_cut(uint16_t *table, size_t table_words, uint32_t a, uint32_t b);
 
-/* Cuts the tie of each crossing of a ring: first and second tab of each crossing in turn, at most 4,096 words. On a
- * flat plan a piece comes loose. Refusals: 1 2 10 3 4 8 9 11 12 13, each over the whole list before the next. */
+/* Cuts the tie of each crossing of a ring: first and second tab of each crossing in turn, at most 4,096 words. If the
+ * ring's piece is flat, which lotskadi_component_report of any of its tabs tells by 0 handles, it comes apart in two
+ * flat pieces, one with all first tabs and one with all second tabs, and every other piece keeps its tabs and its
+ * report. Refusals: 1 2 10 3 4 8 9 11 12 13, each over the whole list before the next. */
 uint8_t lotskadi_ring_cut(uint16_t *table, size_t table_words, const uint16_t *ring, size_t ring_words);
 
 /* QUESTIONS read the table. */
 
 /* The eight numbers. Refusals: 1 2. */
 struct lotskadi_totals lotskadi_report(const uint16_t *table, size_t table_words);
+
+/* The eight numbers of the piece (component) of one tab, as if it were the whole plan: pieces is 1, lifts is 1 if it
+ * has at least two tabs and 0 if it has one, and cells + ties + gaps + 2 * handles is 2 + tabs. Over all pieces each
+ * number adds up to lotskadi_report's. Refusals: 1 2 3 4. */
+struct lotskadi_totals lotskadi_component_report(const uint16_t *table, size_t table_words, uint32_t tab);
 
 /* Whether a and b share a tie (edge), cell (vertex), gap (face) or piece (component). Refusals: 1 2 3 4. */
 struct lotskadi_answer lotskadi_same_edge(const uint16_t *table, size_t table_words, uint32_t a, uint32_t b);

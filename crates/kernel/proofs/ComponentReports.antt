@@ -1,11 +1,10 @@
--- The promises of the report of one component: it is the hypermap of that component that is counted, which is connected,
+-- The promises of the report of one component: what is counted is the hypermap of that component, which is connected,
 -- and over all components the counts add up. Assumes nothing.
-use mathlib.Core.Path.{_≡_, refl, sym, ap, _∙_}
+use mathlib.Core.Path.{_≡_, sym, ap, _∙_}
 use mathlib.Core.Bool.{true}
 use mathlib.Core.List.{[], _∷_}
 use Prim.Native.Nat.{ℕ}
 use lib.ListN.{length}
-use Rattle.hypermap.specs.Lists.{sumOf, sumOfIntegers}
 use Rattle.hypermap.specs.Hypermap.{edge, vertex, Hypermap, isHypermap, of, face, edges, vertices, faces, components}
 use Rattle.hypermap.specs.Hypermap.{genus, componentAt}
 use Rattle.hypermap.specs.Laws.{componentRoots, sumOverComponents, IsConnected, AddsUp}
@@ -13,13 +12,13 @@ use Rattle.hypermap.proofs.Basics.Lists.{Mem}
 use Rattle.hypermap.proofs.Basics.Sums.{sumExt, sumOfIntegersExt}
 use Rattle.hypermap.proofs.Laws.Components.{componentLaw}
 use Rattle.hypermap.proofs.Laws.ComponentGenus.{componentShared, rootDart, componentGenusLaw}
-use Rattle.table.specs.Layout.{Table, isSound, hypermapOf}
+use Rattle.table.specs.Layout.{Table, hypermapOf}
 use Rattle.table.proofs.Soundness.{memPresent, soundHypermap}
 use Rattle.parts.specs.Counts.{lifts}
 use Rattle.parts.specs.Sharing.{isSame}
 use Rattle.parts.specs.declared.Part.the-variants.{Component}
 use Rattle.parts.proofs.Lifting.{liftsByDarts, liftsAddUp}
-use Rattle.kernel.specs.Calls.{tableFault, reportOn, reportOf, questionFault, componentReportOf}
+use Rattle.kernel.specs.Calls.{tableFault, reportOn, questionFault, componentReportOf}
 use Rattle.kernel.specs.ComponentReports.{IsOneComponent, sumOfReports, ReportsAddUp, ComponentPromise}
 use Rattle.kernel.specs.declared.Totals.{Totals}
 use Rattle.kernel.proofs.Judging.{Reported, tablePassed, planReported, reportPassed, dartReady, dartFits}
@@ -81,7 +80,8 @@ module _ (w : Table) (t : tableFault w ≡ 0) where
         edges = sum (λ t. t .edges) edges (λ x k. k .edges) ∙ sums .orbits (of edge) ∙ sym (r .edges);
         vertices = sum (λ t. t .vertices) vertices (λ x k. k .vertices) ∙ sums .orbits (of vertex) ∙ sym (r .vertices);
         faces = sum (λ t. t .faces) faces (λ x k. k .faces) ∙ sums .orbits face ∙ sym (r .faces);
-        components = sum (λ t. t .components) components (λ x k. k .components) ∙ sums .components ∙ sym (r .components);
+        components =
+            sum (λ t. t .components) components (λ x k. k .components) ∙ sums .components ∙ sym (r .components);
         characteristic =
             sumOfIntegersExt _ _ (componentRoots m) (λ x i. given x i .characteristic) ∙ sums .characteristic ∙
             sym (r .characteristic);

@@ -9,4 +9,5 @@ use Rattle.kernel.proofs.Judging.{tablePassed, planReported, reportPass
 pub liftsPromise : LiftsPromise
 liftsPromise w e =
     let t = reportPassed w e in
-    rw (planReported w t .lifts, planReported w t .components) (liftsLaw (hypermapOf w) (soundHypermap w (tablePassed w t .sound)))
+    let r = planReported w t in
+    rw (r .lifts, r .components) (liftsLaw (hypermapOf w) (soundHypermap w (tablePassed w t .sound)))

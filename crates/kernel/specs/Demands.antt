@@ -228,9 +228,9 @@ pub record IsRingCut (w v : Table) (ring : List ℕ) : Type 0 where
   pub listed : linksOf ring ≡ link ∷ links
   pub parted : IsParted (hypermapOf w) (hypermapOf v) link links
 
--- it follows: "On every flat plan every accepted ring cut, whatever its number of crossings, parts the ring's piece in exactly two,
--- one with all the first tabs, the other with all the second tabs; every other piece keeps its tabs, and the plan stays
--- flat": flat by the reports before and after it
+-- and so: "On every flat plan every accepted ring cut, whatever its number of crossings, parts the ring's piece in
+-- exactly two, one with all the first tabs, the other with all the second tabs; every other piece keeps its tabs, and
+-- the plan stays flat": flat by the reports before and after it
 abbrev pub RingDemand : Type 0
 RingDemand =
     (w : Table) (ring : List ℕ) → ringCallFault w ring ≡ 0 → reportOf w .genus ≡ 0 →

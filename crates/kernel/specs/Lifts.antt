@@ -9,4 +9,5 @@ use Rattle.kernel.specs.Calls.{reportOf}
 -- they are the components less the darts that are alone
 abbrev pub LiftsPromise : Type 0
 LiftsPromise =
-    (w : Table) → reportOf w .number ≡ 0 → reportOf w .lifts + length (aloneDarts (hypermapOf w)) ≡ reportOf w .components
+    (w : Table) → reportOf w .number ≡ 0 →
+    reportOf w .lifts + length (aloneDarts (hypermapOf w)) ≡ reportOf w .components

@@ -110,7 +110,8 @@ module _ (m : Hypermap) (wf : isHypermap m ≡ true) (x : ℕ) (d : Mem x (m .da
 
   pub liftsShared : isAloneIn m x ≡ false → lifts c ≡ 1
   liftsShared f =
-      let none = keptNone (isAloneIn m) (c .darts) (λ y i. refuted (isAloneIn m y) (λ t. clash (rw (same y i t) t) f)) in
+      let none = keptNone (isAloneIn m) (c .darts)
+      (λ y i. refuted (isAloneIn m y) (λ t. clash (rw (same y i t) t) f)) in
       omega (arith, oneOrAlone, none)
     where
       same : (y : ℕ) → Mem y (c .darts) → isAloneIn m y ≡ true → x ≡ y

@@ -12,8 +12,8 @@ use Rattle.hypermap.specs.Lists.{among, keep}
 use Rattle.hypermap.specs.Hypermap.{isDart, isHypermap, Kind, orbitOf, componentOf, isLeastIn, orbits, restrict}
 use Rattle.hypermap.specs.Hypermap.{componentAt}
 use Rattle.hypermap.specs.Laws.{Closed}
-use Rattle.hypermap.proofs.Basics.Bools.{byCases, clash, boolExt, refuted, andLeft, andRight, andTrue}
-use Rattle.hypermap.proofs.Basics.Lists.{Mem, keepExt, keepShorter}
+use Rattle.hypermap.proofs.Basics.Bools.{byCases, clash, boolExt, andLeft, andRight, andTrue}
+use Rattle.hypermap.proofs.Basics.Lists.{Mem, keepShorter}
 use Rattle.hypermap.proofs.Hypermaps.Totals.{links}
 use Rattle.hypermap.proofs.Hypermaps.Restricting.{restrictExt, restrictAll, orbitRestrict, restrictHypermap}
 use Rattle.hypermap.proofs.Hypermaps.Restricting.{closedOrbit, componentClosed}
@@ -23,7 +23,7 @@ use Rattle.table.proofs.Soundness.{low, high, memPresent, soundHypermap, dartsF
 use Rattle.table.proofs.Zeros.{zeroAt}
 use Rattle.parts.specs.Inner.{markAt, HasMark, Painted, isMarked, markedIn, MarkedSet, Raised}
 use Rattle.parts.proofs.Counting.{keepBoth}
-use Rattle.parts.proofs.Marking.{setHere, setElse, Pass, Passed, passedNone, passedCount, passedInside}
+use Rattle.parts.proofs.Marking.{setHere, setElse, Sweep, Pass, Passed, passedNone, passedCount, passedInside}
 use Rattle.parts.proofs.Walking.{orbitParts}
 
 dartOne : (w : Table) (x : ℕ) → Mem x (hypermapOf w .darts) → 1 ≤ x
@@ -147,12 +147,15 @@ abbrev pub inSet : Table → (marks : List ℕ) → (value y : ℕ) → Bool
 inSet w m v y = isPresent w y && isMarked m v y
 
 -- a pass over its orbits of a kind, which raises the mark
-abbrev pub PassedMarked : Table → (marks : List ℕ) → (value : ℕ) → Kind → (x count : ℕ) → List ℕ → Type 0
-PassedMarked w m v c x count n =
-    Passed w (inSet w m v) (orbitOf (hypermapOf w) c) (markAt m) (λ y. v + 1) (length m) x count n
-
-abbrev pub PassMarked : Table → (marks : List ℕ) → (value : ℕ) → Kind → Type 0
-PassMarked w m v c = Pass w (inSet w m v) (orbitOf (hypermapOf w) c) (markAt m) (λ y. v + 1) (λ x u. eqb u v)
+abbrev pub raisingSweep : Table → (marks : List ℕ) → (value : ℕ) → Kind → Sweep
+raisingSweep w m v c = record {
+  darts = inSet w m v;
+  part = orbitOf (hypermapOf w) c;
+  before = markAt m;
+  after = λ y. v + 1;
+  fresh = λ y u. eqb u v;
+  size = length m;
+}
 
 -- A MARKED SET is a hypermap by itself, with few darts
 module _ (w : Table) (m : List ℕ) (v : ℕ) (k : MarkedSet w m v) where
@@ -177,8 +180,9 @@ module _ (w : Table) (m : List ℕ) (v : ℕ) (k : MarkedSet w m v) where
   inSetDarts = ap length (sym (keepBoth (isPresent w) (isMarked m v) (numbers w)))
 
   module _ (c : Kind) where
-    pub markedPass : PassMarked w m v c
-    markedPass = record {
+    pub raisingPass : Pass w (raisingSweep w m v c)
+    raisingPass = record {
+      room = k .room .size;
       holds = record {
         parts = orbitParts w (k .sound) c;
         darts = λ x t. andLeft (isPresent w x) (isMarked m v x) t;
@@ -194,26 +198,21 @@ module _ (w : Table) (m : List ℕ) (v : ℕ) (k : MarkedSet w m v) where
       others = λ x l t. sym (inSetTest x l) ∙ t;
     }
 
-    pub markedNone : PassedMarked w m v c 1 0 m
-    markedNone =
-        passedNone w (inSet w m v) (orbitOf (hypermapOf w) c) (markAt m) (λ y. v + 1) (λ x u. eqb u v) markedPass (length m)
-        (k .room .size) m refl (λ y l. refl)
+    pub raisingNone : Passed w (raisingSweep w m v c) 1 0 m
+    raisingNone = passedNone w (raisingSweep w m v c) raisingPass m refl (λ y l. refl)
 
-    module _ (x count : ℕ) (n : List ℕ) (p : PassedMarked w m v c x count n) (h : capacity w < x) where
-      pub markedCount : count ≡ orbits (markedIn w m v) c
-      markedCount =
-          passedCount w (inSet w m v) (orbitOf (hypermapOf w) c) (markAt m) (λ y. v + 1) (λ x u. eqb u v) markedPass (length m)
-          (k .room .size) x count n p h ∙
+    module _ (x count : ℕ) (n : List ℕ) (p : Passed w (raisingSweep w m v c) x count n) (h : capacity w < x) where
+      pub raisingCount : count ≡ orbits (markedIn w m v) c
+      raisingCount =
+          passedCount w (raisingSweep w m v c) raisingPass x count n p h ∙
           ap (λ ds. length (keep (isLeastIn (orbitOf (hypermapOf w) c)) ds))
           (sym (keepBoth (isPresent w) (isMarked m v) (numbers w))) ∙
           ap (λ f. length (keep (isLeastIn f) (markedIn w m v .darts)))
           (sym (orbitRestrict (hypermapOf w) (isMarked m v) c))
 
-      pub markedRaised : Raised v m n
-      markedRaised = record {
-        inside = λ y l t.
-            passedInside w (inSet w m v) (orbitOf (hypermapOf w) c) (markAt m) (λ y. v + 1) (λ x u. eqb u v) markedPass
-            (length m) (k .room .size) x count n p h y (inSetTest y l ∙ t);
+      pub raisingDone : Raised v m n
+      raisingDone = record {
+        inside = λ y l t. passedInside w (raisingSweep w m v c) raisingPass x count n p h y (inSetTest y l ∙ t);
         outside = λ y l t. p .outside y l (inSetTest y l ∙ t);
       }
 

@@ -81,74 +81,84 @@ module _ (w : Table) (p : ℕ → Bool) (part : ℕ → List ℕ) (s : Holds w p
       let back = s .parts .symmetric x y (member x t) i in
       omega (arith, leastBelow x y t i, leastBelow y x (s .closed x y t i) back)
 
--- THE PASS marks the darts of the set: each has a mark before it and one after it, by which the code's test, of a
--- number and its mark, knows the darts that it has not reached
-pub record Pass
-    (w : Table) (p : ℕ → Bool) (part : ℕ → List ℕ) (before after : ℕ → ℕ) (fresh : (x mark : ℕ) → Bool) : Type 0
-  where
-    pub holds : Holds w p part
-    pub shared : (x y : ℕ) → p x ≡ true → among y (part x) ≡ true → after y ≡ after x
-    pub unreached : (x : ℕ) → p x ≡ true → fresh x (before x) ≡ true
-    pub reached : (x : ℕ) → p x ≡ true → fresh x (after x) ≡ false
-    pub others : (x : ℕ) → 1 ≤ x → p x ≡ false → fresh x (before x) ≡ false
+-- A PASS over the numbers is given the darts that it marks, their parts, the marks of each before and after it, the
+-- code's test of a number and its mark, and how many marks there are
+pub record Sweep : Type 0 where
+  pub darts : ℕ → Bool
+  pub part : ℕ → List ℕ
+  pub before : ℕ → ℕ
+  pub after : ℕ → ℕ
+  pub fresh : (x mark : ℕ) → Bool
+  pub size : ℕ
+
+-- by which it knows the darts that it has not reached
+pub record Pass (w : Table) (s : Sweep) : Type 0 where
+  pub room : capacity w ≤ s .size
+  pub holds : Holds w (s .darts) (s .part)
+  pub shared : (x y : ℕ) → s .darts x ≡ true → among y (s .part x) ≡ true → s .after y ≡ s .after x
+  pub unreached : (x : ℕ) → s .darts x ≡ true → s .fresh x (s .before x) ≡ true
+  pub reached : (x : ℕ) → s .darts x ≡ true → s .fresh x (s .after x) ≡ false
+  pub others : (x : ℕ) → 1 ≤ x → s .darts x ≡ false → s .fresh x (s .before x) ≡ false
 
 -- it stands at x: the parts whose smallest dart is below x are marked, and so many were counted
-pub record Passed
-    (w : Table) (p : ℕ → Bool) (part : ℕ → List ℕ) (before after : ℕ → ℕ) (n x count : ℕ) (m : List ℕ) : Type 0
-  where
-    pub counted : Counting (capacity w) (λ y. p y && isLeastIn part y) x count
-    pub size : length m ≡ n
-    pub below : (y : ℕ) → p y ≡ true → smallest part y < x → markAt m y ≡ after y
-    pub above : (y : ℕ) → p y ≡ true → x ≤ smallest part y → markAt m y ≡ before y
-    pub outside : (y : ℕ) → 1 ≤ y → p y ≡ false → markAt m y ≡ before y
+pub record Passed (w : Table) (s : Sweep) (x count : ℕ) (m : List ℕ) : Type 0 where
+  pub counted : Counting (capacity w) (λ y. s .darts y && isLeastIn (s .part) y) x count
+  pub size : length m ≡ s .size
+  pub below : (y : ℕ) → s .darts y ≡ true → smallest (s .part) y < x → markAt m y ≡ s .after y
+  pub above : (y : ℕ) → s .darts y ≡ true → x ≤ smallest (s .part) y → markAt m y ≡ s .before y
+  pub outside : (y : ℕ) → 1 ≤ y → s .darts y ≡ false → markAt m y ≡ s .before y
 
-module _
-    (w : Table) (p : ℕ → Bool) (part : ℕ → List ℕ) (before after : ℕ → ℕ) (fresh : (x mark : ℕ) → Bool)
-    (s : Pass w p part before after fresh) (n : ℕ) (room : capacity w ≤ n) where
-  abbrev g : Holds w p part
-  g = s .holds
+module _ (w : Table) (s : Sweep) (g : Pass w s) where
+  abbrev p : ℕ → Bool
+  p = s .darts
+
+  abbrev part : ℕ → List ℕ
+  part = s .part
+
+  abbrev first : ℕ → ℕ
+  first = smallest part
 
   -- nothing passed
   pub passedNone :
-      (m : List ℕ) → length m ≡ n → ((y : ℕ) → 1 ≤ y → markAt m y ≡ before y) → Passed w p part before after n 1 0 m
+      (m : List ℕ) → length m ≡ s .size → ((y : ℕ) → 1 ≤ y → markAt m y ≡ s .before y) → Passed w s 1 0 m
   passedNone m e z = record {
     counted = countingNone (capacity w) (λ y. p y && isLeastIn part y);
     size = e;
-    below = λ y t l. absurd (omega (arith, leastOne w p part g y t));
-    above = λ y t l. z y (one w p part g y t);
+    below = λ y t l. absurd (omega (arith, leastOne w p part (g .holds) y t));
+    above = λ y t l. z y (one w p part (g .holds) y t);
     outside = λ y l f. z y l;
   }
 
-  module _ (x count : ℕ) (m : List ℕ) (c : Passed w p part before after n x count m) where
+  module _ (x count : ℕ) (m : List ℕ) (c : Passed w s x count m) where
     -- one number more
     module _ (h : x ≤ capacity w) where
       pub passedMark : InTable w x 0 × HasMark m x
       passedMark = (
         record { low = c .counted .low; high = h; word = omega arith },
-        record { low = c .counted .low; high = omega arith },
+        record { low = c .counted .low; high = omega (arith, c .size, g .room) },
       )
 
-      freshLeast : fresh x (markAt m x) ≡ true → (p x ≡ true) × (smallest part x ≡ x)
+      freshLeast : s .fresh x (markAt m x) ≡ true → (p x ≡ true) × (first x ≡ x)
       freshLeast t =
           byCases (p x)
           (λ u. (
             u,
-            byCases (ltb (smallest part x) x)
-                (λ b. clash t (ap (fresh x) (c .below x u (ltb-true (smallest part x) x b)) ∙ s .reached x u))
-                (λ b. omega (arith, ltb-false (smallest part x) x b, leastUp w p part g x)),
+            byCases (ltb (first x) x)
+                (λ b. clash t (ap (s .fresh x) (c .below x u (ltb-true (first x) x b)) ∙ g .reached x u))
+                (λ b. omega (arith, ltb-false (first x) x b, leastUp w p part (g .holds) x)),
           ))
-          (λ u. clash t (ap (fresh x) (c .outside x (c .counted .low) u) ∙ s .others x (c .counted .low) u))
+          (λ u. clash t (ap (s .fresh x) (c .outside x (c .counted .low) u) ∙ g .others x (c .counted .low) u))
 
-      leastFresh : p x ≡ true → smallest part x ≡ x → fresh x (markAt m x) ≡ true
-      leastFresh u e = ap (fresh x) (c .above x u (omega arith)) ∙ s .unreached x u
+      leastFresh : p x ≡ true → first x ≡ x → s .fresh x (markAt m x) ≡ true
+      leastFresh u e = ap (s .fresh x) (c .above x u (omega arith)) ∙ g .unreached x u
 
-      isFirst : fresh x (markAt m x) ≡ (p x && isLeastIn part x)
+      isFirst : s .fresh x (markAt m x) ≡ (p x && isLeastIn part x)
       isFirst =
           boolExt _ _
           (λ t. let r = freshLeast t in andTrue (p x) (isLeastIn part x) (r .0) (eq-eqb _ x (r .1)))
           (λ t. leastFresh (andLeft (p x) (isLeastIn part x) t) (eqb-true _ x (andRight (p x) (isLeastIn part x) t)))
 
-      pub passedOther : fresh x (markAt m x) ≡ false → Passed w p part before after n (x + 1) count m
+      pub passedOther : s .fresh x (markAt m x) ≡ false → Passed w s (x + 1) count m
       passedOther t = record {
         counted = countingNo _ _ x count (c .counted) h (sym isFirst ∙ t);
         size = c .size;
@@ -157,63 +167,65 @@ module _
         outside = c .outside;
       }
         where
-          other : (y : ℕ) → p y ≡ true → smallest part y ≡ x → ⊥
+          other : (y : ℕ) → p y ≡ true → first y ≡ x → ⊥
           other y u e =
-              let i = leastInside w p part g y u in
-              clash (leastFresh (rw e at (g .closed y (smallest part y) u i))
-              (rw e at (leastSame w p part g y (smallest part y) u i))) t
+              let i = leastInside w p part (g .holds) y u in
+              clash (leastFresh (rw e at (g .holds .closed y (first y) u i))
+              (rw e at (leastSame w p part (g .holds) y (first y) u i))) t
 
-      module _ (t : fresh x (markAt m x) ≡ true) where
-        inPart : (y : ℕ) → Mem y (part x) → smallest part y ≡ x
-        inPart y i = let r = freshLeast t in leastSame w p part g x y (r .0) i ∙ r .1
+      module _ (t : s .fresh x (markAt m x) ≡ true) where
+        inPart : (y : ℕ) → Mem y (part x) → first y ≡ x
+        inPart y i = let r = freshLeast t in leastSame w p part (g .holds) x y (r .0) i ∙ r .1
 
         pub freshMarking : isSound w ≡ true → MarkingAt w x m
-        freshMarking k =
-            record { at = record { sound = k; here = g .darts x (freshLeast t .0) }; size = omega arith }
+        freshMarking k = record {
+          at = record { sound = k; here = g .holds .darts x (freshLeast t .0) };
+          size = omega (arith, c .size, g .room);
+        }
 
-        pub freshPart : (y : ℕ) → Mem y (part x) → markAt m y ≡ before y
-        freshPart y i = c .above y (g .closed x y (freshLeast t .0) i) (omega (arith, inPart y i))
+        pub freshPart : (y : ℕ) → Mem y (part x) → markAt m y ≡ s .before y
+        freshPart y i = c .above y (g .holds .closed x y (freshLeast t .0) i) (omega (arith, inPart y i))
 
         pub passedFresh :
-            (v : List ℕ) → length v ≡ length m → Painted (part x) (after x) m v →
-            Passed w p part before after n (x + 1) (count + 1) v
+            (v : List ℕ) → length v ≡ length m → Painted (part x) (s .after x) m v →
+            Passed w s (x + 1) (count + 1) v
         passedFresh v l q = record {
           counted = countingYes _ _ x count (c .counted) h (sym isFirst ∙ t);
           size = l ∙ c .size;
           below = λ y u b. byCases (among y (part x))
-              (λ i. q .inside y i ∙ sym (s .shared x y (freshLeast t .0) i))
-              (λ i. let d = other y u i in q .outside y (one w p part g y u) i ∙ c .below y u (omega arith));
+              (λ i. q .inside y i ∙ sym (g .shared x y (freshLeast t .0) i))
+              (λ i. let d = other y u i in q .outside y (one w p part (g .holds) y u) i ∙ c .below y u (omega arith));
           above = λ y u b. let i = refuted (among y (part x)) (λ j. omega (arith, inPart y j)) in
-              q .outside y (one w p part g y u) i ∙ c .above y u (omega arith);
+              q .outside y (one w p part (g .holds) y u) i ∙ c .above y u (omega arith);
           outside = λ y k u.
-              let i = refuted (among y (part x)) (λ j. clash (g .closed x y (freshLeast t .0) j) u) in
+              let i = refuted (among y (part x)) (λ j. clash (g .holds .closed x y (freshLeast t .0) j) u) in
               q .outside y k i ∙ c .outside y k u;
         }
           where
-            other : (y : ℕ) → p y ≡ true → among y (part x) ≡ false → smallest part y ≡ x → ⊥
+            other : (y : ℕ) → p y ≡ true → among y (part x) ≡ false → first y ≡ x → ⊥
             other y u i e =
-                clash (g .parts .symmetric y x (member w p part g y u) (rw e at (leastInside w p part g y u))) i
+                clash (g .holds .parts .symmetric y x (member w p part (g .holds) y u)
+                (rw e at (leastInside w p part (g .holds) y u))) i
 
     -- all passed
     pub passedCount : capacity w < x → count ≡ length (keep (isLeastIn part) (keep p (numbers w)))
     passedCount h =
         countingAll _ _ x count (c .counted) h ∙ ap length (sym (keepBoth p (isLeastIn part) (numbers w)))
 
-    pub passedInside : capacity w < x → (y : ℕ) → p y ≡ true → markAt m y ≡ after y
-    passedInside h y t = c .below y t (omega (arith, leastUp w p part g y, high w y (g .darts y t)))
+    pub passedInside : capacity w < x → (y : ℕ) → p y ≡ true → markAt m y ≡ s .after y
+    passedInside h y t =
+        c .below y t (omega (arith, leastUp w p part (g .holds) y, high w y (g .holds .darts y t)))
 
 -- EACH PART OF THE TABLE marked with its smallest dart, where there were no marks
-abbrev pub noMarks : (x : ℕ) → ℕ
-noMarks x = 0
-
-abbrev pub isUnmarked : Table → (x mark : ℕ) → Bool
-isUnmarked w x v = isPresent w x && eqb v 0
-
-abbrev pub PassLeast : Table → (part : ℕ → List ℕ) → Type 0
-PassLeast w part = Pass w (isPresent w) part noMarks (smallest part) (isUnmarked w)
-
-abbrev pub PassedLeast : Table → (part : ℕ → List ℕ) → (x count : ℕ) → List ℕ → Type 0
-PassedLeast w part x count m = Passed w (isPresent w) part noMarks (smallest part) (capacity w) x count m
+abbrev pub leastSweep : Table → (part : ℕ → List ℕ) → Sweep
+leastSweep w part = record {
+  darts = isPresent w;
+  part = part;
+  before = λ x. 0;
+  after = smallest part;
+  fresh = λ x v. isPresent w x && eqb v 0;
+  size = capacity w;
+}
 
 pub mapUpFrom : (h : ℕ → ℕ) (a n i : ℕ) → i < n → getD (map h (upFrom a n)) i 0 ≡ h (a + i)
 unfolding upFrom
@@ -229,8 +241,9 @@ module _ (w : Table) (part : ℕ → List ℕ) (q : Equivalence (hypermapOf w .d
     closed = λ x y t i. rw memPresent at (q .within x y (rw memPresent t) i);
   }
 
-  pub leastPass : PassLeast w part
+  pub leastPass : Pass w (leastSweep w part)
   leastPass = record {
+    room = omega arith;
     holds = holdsAll;
     shared = leastSame w (isPresent w) part holdsAll;
     unreached = λ x t. rw t;
@@ -238,36 +251,31 @@ module _ (w : Table) (part : ℕ → List ℕ) (q : Equivalence (hypermapOf w .d
     others = λ x l t. rw t;
   }
 
-  pub leastNone : (m : List ℕ) → m ≡ replicate (capacity w) 0 → PassedLeast w part 1 0 m
+  pub leastNone : (m : List ℕ) → m ≡ replicate (capacity w) 0 → Passed w (leastSweep w part) 1 0 m
   leastNone m e =
-      passedNone w (isPresent w) part noMarks (smallest part) (isUnmarked w) leastPass (capacity w) (omega arith) m
-      (rw e (length-replicate (capacity w) 0)) (λ y l. rw e (zeroAt (capacity w) (y - 1)))
+      passedNone w (leastSweep w part) leastPass m (rw e (length-replicate (capacity w) 0))
+      (λ y l. rw e (zeroAt (capacity w) (y - 1)))
 
-  module _ (x count : ℕ) (m : List ℕ) (c : PassedLeast w part x count m) (h : x ≤ capacity w) where
+  module _ (x count : ℕ) (m : List ℕ) (c : Passed w (leastSweep w part) x count m) where
     pub leastOn :
-        isFresh w m x ≡ true → (v : List ℕ) → length v ≡ length m → Painted (part x) x m v →
-        PassedLeast w part (x + 1) (count + 1) v
-    leastOn t v l q =
-        let e = freshLeast w (isPresent w) part noMarks (smallest part) (isUnmarked w) leastPass (capacity w)
-        (omega arith) x count m c h t .1 in
-        passedFresh w (isPresent w) part noMarks (smallest part) (isUnmarked w) leastPass (capacity w) (omega arith) x
-        count m c h t v l (subst (λ i. Painted (part x) i m v) (sym e) q)
+        x ≤ capacity w → isFresh w m x ≡ true → (v : List ℕ) → length v ≡ length m → Painted (part x) x m v →
+        Passed w (leastSweep w part) (x + 1) (count + 1) v
+    leastOn h t v l q =
+        let e = freshLeast w (leastSweep w part) leastPass x count m c h t .1 in
+        passedFresh w (leastSweep w part) leastPass x count m c h t v l
+        (subst (λ i. Painted (part x) i m v) (sym e) q)
 
-  pub leastAll :
-      (x count : ℕ) (m : List ℕ) → PassedLeast w part x count m → capacity w < x →
-      (count ≡ length (leastDarts (hypermapOf w) part)) × (m ≡ marksOf w part)
-  unfolding marksOf markOf
-  leastAll x count m c h = (
-    passedCount w (isPresent w) part noMarks (smallest part) (isUnmarked w) leastPass (capacity w) (omega arith) x count
-        m c h,
-    ext-getD 0 m (map (markOf w part) (numbers w)) (c .size ∙ sym (marksLength w part)) (λ i l.
-        let e : 1 + i - 1 ≡ i = omega arith in
-        rw e at (marked (1 + i) (omega arith)) ∙ sym (mapUpFrom (markOf w part) 1 (capacity w) i (omega arith))),
-  )
-    where
-      marked : (y : ℕ) → 1 ≤ y → markAt m y ≡ markOf w part y
-      marked y l =
-          byCases (isPresent w y)
-          (λ t. rw t (passedInside w (isPresent w) part noMarks (smallest part) (isUnmarked w) leastPass (capacity w)
-          (omega arith) x count m c h y t))
-          (λ t. rw t (c .outside y l t))
+    pub leastAll : capacity w < x → (count ≡ length (leastDarts (hypermapOf w) part)) × (m ≡ marksOf w part)
+    unfolding marksOf markOf
+    leastAll h = (
+      passedCount w (leastSweep w part) leastPass x count m c h,
+      ext-getD 0 m (map (markOf w part) (numbers w)) (c .size ∙ sym (marksLength w part)) (λ i l.
+          let e : 1 + i - 1 ≡ i = omega arith in
+          rw e at (marked (1 + i) (omega arith)) ∙ sym (mapUpFrom (markOf w part) 1 (capacity w) i (omega arith))),
+    )
+      where
+        marked : (y : ℕ) → 1 ≤ y → markAt m y ≡ markOf w part y
+        marked y l =
+            byCases (isPresent w y)
+            (λ t. rw t (passedInside w (leastSweep w part) leastPass x count m c h y t))
+            (λ t. rw t (c .outside y l t))

@@ -11,12 +11,14 @@ count-alone-requires c κs = c .before .pre .counted
 sub-result : tie.Need-sub-result
 sub-result c =
     let p = c .before .before .pre in
-    omega (arith, liftsLaw (hypermapOf _) (soundHypermap _ (p .counted .sound)), p .isComponents, c .count-alone .ensures)
+    let l = liftsLaw (hypermapOf _) (soundHypermap _ (p .counted .sound)) in
+    omega (arith, l, p .isComponents, c .count-alone .ensures)
 
 returns : tie.Need-returns
 returns c =
     let p = c .before .before .pre in
-    omega (arith, liftsLaw (hypermapOf _) (soundHypermap _ (p .counted .sound)), p .isComponents, c .count-alone .ensures)
+    let l = liftsLaw (hypermapOf _) (soundHypermap _ (p .counted .sound)) in
+    omega (arith, l, p .isComponents, c .count-alone .ensures)
 
 pub count-lifts-spec : {M : Type 1} → statement M
 count-lifts-spec = tie.close (tie.spec count-alone-requires sub-result returns)

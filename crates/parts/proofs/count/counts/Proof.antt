@@ -1,5 +1,4 @@
 use mathlib.Core.Path.{_≡_, ap, sym, _∙_}
-use Prim.Native.Nat.{_≤_}
 use native.Mathlib.Omega.{arith}
 use borrow.Author.Needs.{needs}
 use Rattle.hypermap.specs.Hypermap.{components}
@@ -16,7 +15,9 @@ module _ (f : tie.After-mark-darts) where
   s = f .before .before .before .before .before
 
   set : MarkedSet (s .args .table .now) (f .mark-darts .last .1 .0) 1
-  set = allSet _ (s .pre .sound) (s .pre .room) 4096 (s .pre .room) _ (f .mark-darts .kept .1 .0) (f .mark-darts .ensures)
+  set =
+      allSet _ (s .pre .sound) (s .pre .room) 4096 (s .pre .room) _ (f .mark-darts .kept .1 .0)
+      (f .mark-darts .ensures)
 
   is : markedIn (s .args .table .now) (f .mark-darts .last .1 .0) 1 ≡ hypermapOf (s .args .table .now)
   is = allIs _ (s .pre .sound) (s .pre .room) 4096 (s .pre .room) _ (f .mark-darts .kept .1 .0) (f .mark-darts .ensures)

@@ -3,7 +3,7 @@ use Prim.Native.Nat.{_+_}
 use native.Mathlib.Omega.{arith}
 use mir.Facts.{toZ-ofZ}
 use borrow.Author.Needs.{needs}
-use Rattle.hypermap.specs.Hypermap.{Hypermap, isHypermap, vertex, of, face, orbits}
+use Rattle.hypermap.specs.Hypermap.{Hypermap, vertex, of, face, orbits}
 use Rattle.parts.specs.Inner.{MarkedSet, markedIn}
 use Rattle.parts.proofs.MarkedSets.{markedHypermap, markedFew, raisedIs, raisedSet}
 use Rattle.parts.proofs.Reporting.{Named, countsFew, countsGenus, countsAre}

@@ -6,15 +6,15 @@ use lib.ListN.{length, replicate}
 use borrow.Author.Needs.{needs}
 use Rattle.hypermap.specs.Hypermap.{componentOf}
 use Rattle.table.specs.Layout.{hypermapOf}
-use Rattle.parts.proofs.Marking.{passedMark, freshMarking, freshPart, passedOther}
-use Rattle.parts.proofs.Marking.{PassedLeast, leastPass, leastNone, leastOn, leastAll}
+use Rattle.parts.proofs.Marking.{Passed, passedMark, freshMarking, freshPart, passedOther}
+use Rattle.parts.proofs.Marking.{leastSweep, leastPass, leastNone, leastOn, leastAll}
 use Rattle.parts.proofs.Flooding.{componentParts}
 use Rattle.parts.proofs.flood.mark_components.Statement.{statement}
 use Rattle.parts.proofs.flood.mark_components.Tie as tie
 
 abbrev Inv-loop : tie.InvT-loop
 Inv-loop table marks₀ queue₀ n count₀ x₀ marks queue count x =
-    PassedLeast table (componentOf (hypermapOf table)) x count marks × (length queue ≡ 4096)
+    Passed table (leastSweep table (componentOf (hypermapOf table))) x count marks × (length queue ≡ 4096)
 
 abbrev μ-loop : tie.MeasureT-loop
 μ-loop table marks₀ queue₀ n count₀ x₀ marks queue count x = n + 1 - x
@@ -33,7 +33,7 @@ loop-holds c =
 is-fresh-requires : tie.Need-is-fresh-requires Inv-loop μ-loop
 is-fresh-requires c κs =
     let l = c .before .before .before in
-    passedMark _ _ _ _ _ _ (leastPass _ _ (componentParts _ (start l .pre .sound))) _ (omega arith) _ _ _ (l .loop .inv .0) (omega arith)
+    passedMark _ _ (leastPass _ _ (componentParts _ (start l .pre .sound))) _ _ _ (l .loop .inv .0) (omega arith)
 
 slice-aggregate-flood : tie.Need-slice-aggregate-flood Inv-loop μ-loop
 slice-aggregate-flood c = sym (c .before .before .before .before .before .before .before .loop .inv .1)
@@ -46,9 +46,9 @@ flood-requires c κs =
     let q = leastPass _ _ (componentParts _ (s .sound)) in
     let e = sym (f .is-fresh .ensures) ∙ c .before .before .if2 .taken in
     record {
-      marking = freshMarking _ _ _ _ _ _ q _ (omega arith) _ _ _ (l .loop .inv .0) (omega arith) e (s .sound);
+      marking = freshMarking _ _ q _ _ _ (l .loop .inv .0) (omega arith) e (s .sound);
       room = omega arith;
-      dry = freshPart _ _ _ _ _ _ q _ (omega arith) _ _ _ (l .loop .inv .0) (omega arith) e;
+      dry = freshPart _ _ q _ _ _ (l .loop .inv .0) (omega arith) e;
     }
 
 loop-again : tie.Need-loop-again Inv-loop μ-loop
@@ -63,7 +63,7 @@ loop-again c =
       leastOn _ _ r _ _ _ (i .0) (omega arith) (e ∙ k .0 .taken) _ (k .3 .kept .1 .1 .0) (k .3 .ensures),
       k .3 .kept .1 .1 .1 .0 ∙ i .1,
     ))
-    (λ k. rw (k .1, k .2, k .3) (passedOther _ _ _ _ _ _ q _ (omega arith) _ _ _ (i .0) (omega arith) (e ∙ k .0 .left), i .1))
+    (λ k. rw (k .1, k .2, k .3) (passedOther _ _ q _ _ _ (i .0) (omega arith) (e ∙ k .0 .left), i .1))
     (c .if2 .came)
 
 returns : tie.Need-returns Inv-loop μ-loop

@@ -8,15 +8,15 @@ use Rattle.hypermap.specs.Hypermap.{orbitOf, sameOrbit}
 use Rattle.hypermap.specs.Laws.{Equivalence}
 use Rattle.table.specs.Layout.{hypermapOf}
 use Rattle.table.specs.Inner.{kindOf}
-use Rattle.parts.proofs.Marking.{passedMark, freshMarking, passedOther}
-use Rattle.parts.proofs.Marking.{PassedLeast, PassLeast, leastPass, leastNone, leastOn, leastAll}
+use Rattle.parts.proofs.Marking.{Pass, Passed, passedMark, freshMarking, passedOther}
+use Rattle.parts.proofs.Marking.{leastSweep, leastPass, leastNone, leastOn, leastAll}
 use Rattle.parts.proofs.Walking.{orbitParts}
 use Rattle.parts.proofs.marks.mark_orbits.Statement.{statement}
 use Rattle.parts.proofs.marks.mark_orbits.Tie as tie
 
 abbrev Inv-loop : tie.InvT-loop
 Inv-loop table orbit marks₀ n count₀ x₀ marks count x =
-    PassedLeast table (orbitOf (hypermapOf table) (kindOf orbit)) x count marks
+    Passed table (leastSweep table (orbitOf (hypermapOf table) (kindOf orbit))) x count marks
 
 abbrev μ-loop : tie.MeasureT-loop
 μ-loop table orbit marks₀ n count₀ x₀ marks count x = n + 1 - x
@@ -30,8 +30,8 @@ parts :
 parts s = orbitParts _ (s .pre .sound) (kindOf (s .args .orbit))
 
 pass :
-    (s : tie.Start Inv-loop μ-loop) → PassLeast (s .args .table .now)
-    (orbitOf (hypermapOf (s .args .table .now)) (kindOf (s .args .orbit)))
+    (s : tie.Start Inv-loop μ-loop) → Pass (s .args .table .now)
+    (leastSweep (s .args .table .now) (orbitOf (hypermapOf (s .args .table .now)) (kindOf (s .args .orbit))))
 pass s = leastPass _ _ (parts s)
 
 loop-holds : tie.Need-loop-holds Inv-loop μ-loop
@@ -42,13 +42,13 @@ loop-holds c =
 is-fresh-requires : tie.Need-is-fresh-requires Inv-loop μ-loop
 is-fresh-requires c κs =
     let l = c .before .before .before in
-    passedMark _ _ _ _ _ _ (pass (start l)) _ (omega arith) _ _ _ (l .loop .inv) (omega arith)
+    passedMark _ _ (pass (start l)) _ _ _ (l .loop .inv) (omega arith)
 
 mark-orbit-requires : tie.Need-mark-orbit-requires Inv-loop μ-loop
 mark-orbit-requires c κs =
     let f = c .before .before in
     let l = f .before .before .before .before in
-    freshMarking _ _ _ _ _ _ (pass (start l)) _ (omega arith) _ _ _ (l .loop .inv) (omega arith)
+    freshMarking _ _ (pass (start l)) _ _ _ (l .loop .inv) (omega arith)
     (sym (f .is-fresh .ensures) ∙ c .before .if2 .taken) (start l .pre .sound)
 
 loop-again : tie.Need-loop-again Inv-loop μ-loop
@@ -60,7 +60,7 @@ loop-again c =
     ⊎-elim
     (λ k. rw (k .5, k .6) (leastOn _ _ r _ _ _ (l .loop .inv) (omega arith) (e ∙ k .0 .taken) _
     (k .2 .kept .1 .1 .1 .1 .0) (k .2 .ensures)))
-    (λ k. rw (k .1, k .2) (passedOther _ _ _ _ _ _ q _ (omega arith) _ _ _ (l .loop .inv) (omega arith) (e ∙ k .0 .left)))
+    (λ k. rw (k .1, k .2) (passedOther _ _ q _ _ _ (l .loop .inv) (omega arith) (e ∙ k .0 .left)))
     (c .if2 .came)
 
 returns : tie.Need-returns Inv-loop μ-loop
