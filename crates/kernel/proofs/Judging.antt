@@ -19,7 +19,7 @@ use Rattle.table.proofs.Faults.{passed, fitting, onePresent, bothPresent, prese
 use Rattle.parts.specs.Counts.{lifts, countsOf}
 use Rattle.parts.specs.Inner.{CountedAtBoth}
 use Rattle.parts.specs.Marks.{componentMarks}
-use Rattle.parts.proofs.Marking.{marksLength}
+use Rattle.parts.proofs.LeastMarks.{marksLength}
 use Rattle.kernel.specs.Calls.{maxCapacity, sizeFits, tableFault, callFault, callLeaves, reportOn, reportOf}
 use Rattle.kernel.specs.Calls.{questionFault, componentReportOf}
 use Rattle.kernel.specs.declared.Totals.{Totals}

@@ -1,5 +1,6 @@
 pub mod Counting
 pub mod Marking
+pub mod LeastMarks
 pub mod Walking
 pub mod Visits
 pub mod Flooding
@@ -7,4 +8,5 @@ pub mod Signed
 pub mod Magnitudes
 pub mod Lifting
 pub mod Reporting
+pub mod DartMarks
 pub mod MarkedSets

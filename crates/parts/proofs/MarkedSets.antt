@@ -1,79 +1,33 @@
 -- Sets of darts told by a mark: what was painted on zeros is such a set, a pass over its orbits counts them and raises
 -- the mark, and the set stays the same. Assumes nothing.
 use mathlib.Core.Path.{_≡_, refl, sym, ap, _∙_}
-use mathlib.Core.Bool.{Bool, true, false, _&&_}
+use mathlib.Core.Bool.{Bool, true, _&&_}
 use mathlib.Core.List.{List}
 use Prim.Native.Nat.{ℕ, _+_, _-_, _≤_, _<_}
 use native.Mathlib.Omega.{arith}
 use lib.Dec.{eqb}
-use lib.ListN.{length, getD, set, replicate, length-set}
-use borrow.Author.Tests.{eqb-true, eqb-false, eq-eqb, ne-eqb}
+use lib.ListN.{length, getD, replicate}
+use borrow.Author.Tests.{eq-eqb, ne-eqb}
 use Rattle.hypermap.specs.Lists.{among, keep}
 use Rattle.hypermap.specs.Hypermap.{isDart, isHypermap, Kind, orbitOf, componentOf, isLeastIn, orbits, restrict}
 use Rattle.hypermap.specs.Hypermap.{componentAt}
 use Rattle.hypermap.specs.Laws.{Closed}
-use Rattle.hypermap.proofs.Basics.Bools.{byCases, clash, boolExt, andLeft, andRight, andTrue}
+use Rattle.hypermap.proofs.Basics.Bools.{byCases, boolExt, andLeft, andRight, andTrue}
 use Rattle.hypermap.proofs.Basics.Lists.{Mem, keepShorter}
 use Rattle.hypermap.proofs.Hypermaps.Totals.{links}
 use Rattle.hypermap.proofs.Hypermaps.Restricting.{restrictExt, restrictAll, orbitRestrict, restrictHypermap}
-use Rattle.hypermap.proofs.Hypermaps.Restricting.{closedOrbit, componentClosed}
+use Rattle.hypermap.proofs.Hypermaps.Restricting.{closedExt, closedOrbit, componentClosed}
 use Rattle.hypermap.proofs.Laws.Components.{componentLaw}
 use Rattle.table.specs.Layout.{Table, capacity, numbers, isPresent, isSound, hypermapOf}
-use Rattle.table.proofs.Soundness.{low, high, memPresent, soundHypermap, dartsFew}
+use Rattle.table.proofs.Soundness.{low, memPresent, soundHypermap, dartsFew}
 use Rattle.table.proofs.Zeros.{zeroAt}
-use Rattle.parts.specs.Inner.{markAt, HasMark, Painted, isMarked, markedIn, MarkedSet, Raised}
+use Rattle.parts.specs.Inner.{markAt, Painted, isMarked, markedIn, MarkedSet, Raised}
 use Rattle.parts.proofs.Counting.{keepBoth}
-use Rattle.parts.proofs.Marking.{setHere, setElse, Sweep, Pass, Passed, passedNone, passedCount, passedInside}
+use Rattle.parts.proofs.Marking.{Sweep, Pass, Passed, passedNone, passedCount, passedInside}
 use Rattle.parts.proofs.Walking.{orbitParts}
 
 dartOne : (w : Table) (x : ℕ) → Mem x (hypermapOf w .darts) → 1 ≤ x
 dartOne w x d = low w x (rw memPresent at d)
-
--- EACH DART below x is marked with 1
-pub record DartsMarked (w : Table) (before m : List ℕ) (x : ℕ) : Type 0 where
-  pub low : 1 ≤ x
-  pub high : x ≤ capacity w + 1
-  pub size : length m ≡ length before
-  pub below : (y : ℕ) → isPresent w y ≡ true → y < x → markAt m y ≡ 1
-  pub absent : (y : ℕ) → 1 ≤ y → isPresent w y ≡ false → markAt m y ≡ markAt before y
-
-module _ (w : Table) (before : List ℕ) where
-  pub dartsNone : DartsMarked w before before 1
-  dartsNone = record {
-    low = omega arith;
-    high = omega arith;
-    size = refl;
-    below = λ y p l. absurd (omega (arith, low w y p));
-    absent = λ y l f. refl;
-  }
-
-  module _ (m : List ℕ) (x : ℕ) (d : DartsMarked w before m x) where
-    pub dartsYes :
-        x ≤ capacity w → HasMark m x → isPresent w x ≡ true → DartsMarked w before (set m (x - 1) 1) (x + 1)
-    dartsYes h k p = record {
-      low = omega arith;
-      high = omega arith;
-      size = length-set m (x - 1) 1 ∙ d .size;
-      below = λ y q l. byCases (eqb y x)
-          (λ t. rw (eqb-true y x t) (setHere m x 1 k))
-          (λ t. let n = eqb-false y x t in setElse m x 1 k y (low w y q) n ∙ d .below y q (omega arith));
-      absent = λ y l f. setElse m x 1 k y l (λ e. clash p (rw (sym e) f)) ∙ d .absent y l f;
-    }
-
-    pub dartsNo : x ≤ capacity w → isPresent w x ≡ false → DartsMarked w before m (x + 1)
-    dartsNo h f = record {
-      low = omega arith;
-      high = omega arith;
-      size = d .size;
-      below = λ y q l. let n : y ≡ x → ⊥ = λ e. clash (rw e at q) f in d .below y q (omega arith);
-      absent = d .absent;
-    }
-
-    pub dartsAll : capacity w < x → Painted (hypermapOf w .darts) 1 before m
-    dartsAll h = record {
-      inside = λ y i. let p = rw memPresent at i in d .below y p (omega (arith, high w y p));
-      outside = λ y l f. d .absent y l (rw memPresent at f);
-    }
 
 -- PAINTED on zeros: the darts of a closed part
 module _
@@ -85,9 +39,11 @@ module _
       (λ t. rw t (eq-eqb (markAt m y) v (q .inside y t)))
       (λ t. let e = q .outside y l t ∙ zeroAt n (y - 1) in rw t (ne-eqb (markAt m y) v (λ i. omega arith)))
 
+  onDarts : (y : ℕ) → Mem y (hypermapOf w .darts) → isMarked m v y ≡ among y part
+  onDarts y d = paintedTest y (dartOne w y d)
+
   pub paintedIs : markedIn w m v ≡ restrict (λ y. among y part) (hypermapOf w)
-  paintedIs =
-      restrictExt (hypermapOf w) (isMarked m v) (λ y. among y part) (λ y d. paintedTest y (dartOne w y d))
+  paintedIs = restrictExt (hypermapOf w) (isMarked m v) (λ y. among y part) onDarts
 
   pub paintedSet :
       ((y : ℕ) → among y part ≡ true → isPresent w y ≡ true) → Closed (hypermapOf w) (λ y. among y part) →
@@ -97,16 +53,8 @@ module _
     room = record { room = room; size = omega arith };
     darts = λ y l t. darts y (sym (paintedTest y l) ∙ t);
     rest = λ y l t. q .outside y l (sym (paintedTest y l) ∙ t) ∙ zeroAt n (y - 1);
-    closed = record {
-      forth = λ k x d t. paintedTest _ (dartOne w _ (links (hypermapOf w) wf k .keepsBack x d)) ∙
-          closed .forth k x d (sym (paintedTest x (dartOne w x d)) ∙ t);
-      back = λ k x d t. paintedTest _ (dartOne w _ (links (hypermapOf w) wf k .keeps x d)) ∙
-          closed .back k x d (sym (paintedTest x (dartOne w x d)) ∙ t);
-    };
+    closed = closedExt (hypermapOf w) (soundHypermap w s) (isMarked m v) (λ y. among y part) onDarts closed;
   }
-    where
-      wf : isHypermap (hypermapOf w) ≡ true
-      wf = soundHypermap w s
 
 -- all darts, and one component
 module _
@@ -224,9 +172,11 @@ module _ (w : Table) (m : List ℕ) (v : ℕ) (k : MarkedSet w m v) where
         (λ t. rw t (eq-eqb (markAt n y) (v + 1) (r .inside y l t)))
         (λ t. let e = r .outside y l t ∙ k .rest y l t in rw t (ne-eqb (markAt n y) (v + 1) (λ i. omega arith)))
 
+    stays : (y : ℕ) → Mem y (hypermapOf w .darts) → isMarked n (v + 1) y ≡ isMarked m v y
+    stays y d = raisedTest y (dartOne w y d)
+
     pub raisedIs : markedIn w n (v + 1) ≡ markedIn w m v
-    raisedIs =
-        restrictExt (hypermapOf w) (isMarked n (v + 1)) (isMarked m v) (λ y d. raisedTest y (dartOne w y d))
+    raisedIs = restrictExt (hypermapOf w) (isMarked n (v + 1)) (isMarked m v) stays
 
     pub raisedSet : MarkedSet w n (v + 1)
     raisedSet = record {
@@ -234,10 +184,5 @@ module _ (w : Table) (m : List ℕ) (v : ℕ) (k : MarkedSet w m v) where
       room = record { room = k .room .room; size = omega (arith, k .room .size) };
       darts = λ y l t. k .darts y l (sym (raisedTest y l) ∙ t);
       rest = λ y l t. let f = sym (raisedTest y l) ∙ t in r .outside y l f ∙ k .rest y l f;
-      closed = record {
-        forth = λ j x d t. raisedTest _ (dartOne w _ (links (hypermapOf w) wf j .keepsBack x d)) ∙
-            k .closed .forth j x d (sym (raisedTest x (dartOne w x d)) ∙ t);
-        back = λ j x d t. raisedTest _ (dartOne w _ (links (hypermapOf w) wf j .keeps x d)) ∙
-            k .closed .back j x d (sym (raisedTest x (dartOne w x d)) ∙ t);
-      };
+      closed = closedExt (hypermapOf w) wf (isMarked n (v + 1)) (isMarked m v) stays (k .closed);
     }

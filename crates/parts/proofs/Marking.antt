@@ -1,28 +1,24 @@
 -- A pass over the numbers that marks a set of darts part by part, whatever the parts are, if they are the classes of an
 -- equivalence on the darts. A dart that the pass has not reached is the smallest of its part. Assumes nothing.
-use mathlib.Core.Path.{_≡_, sym, ap, _∙_, subst}
+use mathlib.Core.Path.{_≡_, sym, ap, _∙_}
 use mathlib.Core.Bool.{Bool, true, false, _&&_}
-use mathlib.Core.List.{List, map}
-use Prim.Native.Nat.{ℕ, zero, suc, _+_, _-_, _≤_, _<_}
-use native.Mathlib.Nat.{add-zero}
+use mathlib.Core.List.{List}
+use Prim.Native.Nat.{ℕ, _+_, _-_, _≤_, _<_}
 use native.Mathlib.Omega.{arith}
-use lib.Dec.{ltb, eqb}
-use lib.ListN.{length, getD, set, replicate, length-replicate, length-map}
-use lib.Seq.{getD-set-same, getD-set-other, ext-getD}
-use borrow.Author.Tests.{eqb-true, eq-eqb, ne-eqb, ltb-true, ltb-false, le-leb}
+use lib.Dec.{ltb}
+use lib.ListN.{length, set}
+use lib.Seq.{getD-set-same, getD-set-other}
+use borrow.Author.Tests.{eqb-true, eq-eqb, ltb-true, ltb-false, le-leb}
 use Rattle.hypermap.specs.Lists.{among, keep, leastOf}
-use Rattle.hypermap.specs.Hypermap.{isLeastIn, leastDarts}
+use Rattle.hypermap.specs.Hypermap.{isLeastIn}
 use Rattle.hypermap.specs.Laws.{Equivalence}
 use Rattle.hypermap.proofs.Basics.Bools.{byCases, clash, boolExt, refuted, andLeft, andRight, andTrue}
 use Rattle.hypermap.proofs.Basics.Lists.{Mem}
 use Rattle.hypermap.proofs.Laws.Counts.{leastHas, leastLow}
-use Rattle.table.specs.Layout.{Table, capacity, upFrom, numbers, isNumber, isPresent, isSound, hypermapOf}
+use Rattle.table.specs.Layout.{Table, capacity, numbers, isNumber, isPresent, isSound, hypermapOf}
 use Rattle.table.specs.Inner.{InTable}
-use Rattle.table.proofs.Numbers.{numbersLength}
 use Rattle.table.proofs.Soundness.{low, high, memPresent}
-use Rattle.table.proofs.Zeros.{zeroAt}
-use Rattle.parts.specs.Marks.{markOf, marksOf}
-use Rattle.parts.specs.Inner.{markAt, HasMark, isFresh, MarkingAt, Painted}
+use Rattle.parts.specs.Inner.{markAt, HasMark, MarkingAt, Painted}
 use Rattle.parts.proofs.Counting.{Counting, countingNone, countingYes, countingNo, countingAll, keepBoth}
 
 -- the tests of the pass
@@ -36,10 +32,6 @@ module _ (m : List ℕ) (x v : ℕ) (h : HasMark m x) where
 
   pub setElse : (y : ℕ) → 1 ≤ y → (y ≡ x → ⊥) → markAt (set m (x - 1) v) y ≡ markAt m y
   setElse y l d = getD-set-other m (x - 1) (y - 1) v 0 (λ e. d (omega arith))
-
-pub marksLength : (w : Table) (part : ℕ → List ℕ) → length (marksOf w part) ≡ capacity w
-unfolding marksOf
-marksLength w part = length-map (numbers w) (markOf w part) ∙ numbersLength w
 
 -- A SET OF DARTS that holds each part that it meets
 pub record Holds (w : Table) (p : ℕ → Bool) (part : ℕ → List ℕ) : Type 0 where
@@ -67,7 +59,7 @@ module _ (w : Table) (p : ℕ → Bool) (part : ℕ → List ℕ) (s : Holds w p
   leastInside : (x : ℕ) → p x ≡ true → Mem (least x) (part x)
   leastInside x t = leastHas (λ y. Mem y (part x)) x (part x) (s .parts .reflexive x (member x t)) (λ y i. i)
 
-  leastOne : (x : ℕ) → p x ≡ true → 1 ≤ least x
+  pub leastOne : (x : ℕ) → p x ≡ true → 1 ≤ least x
   leastOne x t = one (least x) (s .closed x (least x) t (leastInside x t))
 
   leastBelow : (x y : ℕ) → p x ≡ true → Mem y (part x) → least y ≤ least x
@@ -76,7 +68,7 @@ module _ (w : Table) (p : ℕ → Bool) (part : ℕ → List ℕ) (s : Holds w p
       leastLow y (part y) .1 (least x) (s .parts .transitive y x (least x) (member y u)
       (s .parts .symmetric x y (member x t) i) (leastInside x t))
 
-  leastSame : (x y : ℕ) → p x ≡ true → Mem y (part x) → least y ≡ least x
+  pub leastSame : (x y : ℕ) → p x ≡ true → Mem y (part x) → least y ≡ least x
   leastSame x y t i =
       let back = s .parts .symmetric x y (member x t) i in
       omega (arith, leastBelow x y t i, leastBelow y x (s .closed x y t i) back)
@@ -138,7 +130,7 @@ module _ (w : Table) (s : Sweep) (g : Pass w s) where
         record { low = c .counted .low; high = omega (arith, c .size, g .room) },
       )
 
-      freshLeast : s .fresh x (markAt m x) ≡ true → (p x ≡ true) × (first x ≡ x)
+      pub freshLeast : s .fresh x (markAt m x) ≡ true → (p x ≡ true) × (first x ≡ x)
       freshLeast t =
           byCases (p x)
           (λ u. (
@@ -215,67 +207,3 @@ module _ (w : Table) (s : Sweep) (g : Pass w s) where
     pub passedInside : capacity w < x → (y : ℕ) → p y ≡ true → markAt m y ≡ s .after y
     passedInside h y t =
         c .below y t (omega (arith, leastUp w p part (g .holds) y, high w y (g .holds .darts y t)))
-
--- EACH PART OF THE TABLE marked with its smallest dart, where there were no marks
-abbrev pub leastSweep : Table → (part : ℕ → List ℕ) → Sweep
-leastSweep w part = record {
-  darts = isPresent w;
-  part = part;
-  before = λ x. 0;
-  after = smallest part;
-  fresh = λ x v. isPresent w x && eqb v 0;
-  size = capacity w;
-}
-
-pub mapUpFrom : (h : ℕ → ℕ) (a n i : ℕ) → i < n → getD (map h (upFrom a n)) i 0 ≡ h (a + i)
-unfolding upFrom
-mapUpFrom h a zero i l = absurd (omega arith)
-mapUpFrom h a (suc n) zero l = rw add-zero
-mapUpFrom h a (suc n) (suc i) l = mapUpFrom h (suc a) n i (omega arith) ∙ ap h (omega arith)
-
-module _ (w : Table) (part : ℕ → List ℕ) (q : Equivalence (hypermapOf w .darts) (λ x y. among y (part x))) where
-  holdsAll : Holds w (isPresent w) part
-  holdsAll = record {
-    parts = q;
-    darts = λ x t. t;
-    closed = λ x y t i. rw memPresent at (q .within x y (rw memPresent t) i);
-  }
-
-  pub leastPass : Pass w (leastSweep w part)
-  leastPass = record {
-    room = omega arith;
-    holds = holdsAll;
-    shared = leastSame w (isPresent w) part holdsAll;
-    unreached = λ x t. rw t;
-    reached = λ x t. rw t (ne-eqb (smallest part x) 0 (λ e. omega (arith, leastOne w (isPresent w) part holdsAll x t)));
-    others = λ x l t. rw t;
-  }
-
-  pub leastNone : (m : List ℕ) → m ≡ replicate (capacity w) 0 → Passed w (leastSweep w part) 1 0 m
-  leastNone m e =
-      passedNone w (leastSweep w part) leastPass m (rw e (length-replicate (capacity w) 0))
-      (λ y l. rw e (zeroAt (capacity w) (y - 1)))
-
-  module _ (x count : ℕ) (m : List ℕ) (c : Passed w (leastSweep w part) x count m) where
-    pub leastOn :
-        x ≤ capacity w → isFresh w m x ≡ true → (v : List ℕ) → length v ≡ length m → Painted (part x) x m v →
-        Passed w (leastSweep w part) (x + 1) (count + 1) v
-    leastOn h t v l q =
-        let e = freshLeast w (leastSweep w part) leastPass x count m c h t .1 in
-        passedFresh w (leastSweep w part) leastPass x count m c h t v l
-        (subst (λ i. Painted (part x) i m v) (sym e) q)
-
-    pub leastAll : capacity w < x → (count ≡ length (leastDarts (hypermapOf w) part)) × (m ≡ marksOf w part)
-    unfolding marksOf markOf
-    leastAll h = (
-      passedCount w (leastSweep w part) leastPass x count m c h,
-      ext-getD 0 m (map (markOf w part) (numbers w)) (c .size ∙ sym (marksLength w part)) (λ i l.
-          let e : 1 + i - 1 ≡ i = omega arith in
-          rw e at (marked (1 + i) (omega arith)) ∙ sym (mapUpFrom (markOf w part) 1 (capacity w) i (omega arith))),
-    )
-      where
-        marked : (y : ℕ) → 1 ≤ y → markAt m y ≡ markOf w part y
-        marked y l =
-            byCases (isPresent w y)
-            (λ t. rw t (passedInside w (leastSweep w part) leastPass x count m c h y t))
-            (λ t. rw t (c .outside y l t))

@@ -16,7 +16,7 @@ use Rattle.table.specs.Commands.{puts}
 use Rattle.parts.specs.Marks.{markOf, marksOf, orbitMarks}
 use Rattle.parts.specs.Inner.{markAt}
 use Rattle.parts.proofs.Counting.{keepBoth}
-use Rattle.parts.proofs.Marking.{mapUpFrom}
+use Rattle.parts.proofs.LeastMarks.{mapUpFrom}
 use Rattle.tape.specs.Tapes.{bytesOf, tapeBytes}
 use Rattle.writer.specs.Canonical.{orbitJoins, joinsOver, putsOf, joinsOf}
 use Rattle.writer.specs.Inner.{HasRoom, Lays}

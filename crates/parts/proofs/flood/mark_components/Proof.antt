@@ -7,7 +7,7 @@ use borrow.Author.Needs.{needs}
 use Rattle.hypermap.specs.Hypermap.{componentOf}
 use Rattle.table.specs.Layout.{hypermapOf}
 use Rattle.parts.proofs.Marking.{Passed, passedMark, freshMarking, freshPart, passedOther}
-use Rattle.parts.proofs.Marking.{leastSweep, leastPass, leastNone, leastOn, leastAll}
+use Rattle.parts.proofs.LeastMarks.{leastSweep, leastPass, leastNone, leastOn, leastAll}
 use Rattle.parts.proofs.Flooding.{componentParts}
 use Rattle.parts.proofs.flood.mark_components.Statement.{statement}
 use Rattle.parts.proofs.flood.mark_components.Tie as tie

@@ -5,7 +5,7 @@ use native.Mathlib.Omega.{arith}
 use borrow.Author.Needs.{needs}
 use Rattle.hypermap.proofs.Basics.Bools.{refuted}
 use Rattle.table.proofs.Soundness.{firstWord, presentFrom}
-use Rattle.parts.proofs.MarkedSets.{DartsMarked, dartsNone, dartsYes, dartsNo, dartsAll}
+use Rattle.parts.proofs.DartMarks.{DartsMarked, dartsNone, dartsYes, dartsNo, dartsAll}
 use Rattle.parts.proofs.marks.mark_darts.Statement.{statement}
 use Rattle.parts.proofs.marks.mark_darts.Tie as tie
 

@@ -9,7 +9,7 @@ use Rattle.hypermap.specs.Hypermap.{of, orbitOf}
 use Rattle.hypermap.proofs.Basics.Bools.{andLeft}
 use Rattle.table.specs.Layout.{capacity, hypermapOf}
 use Rattle.table.specs.Inner.{dimensionOf}
-use Rattle.parts.proofs.Marking.{marksLength}
+use Rattle.parts.proofs.LeastMarks.{marksLength}
 use Rattle.tape.specs.Tapes.{tapeBytes}
 use Rattle.writer.specs.Canonical.{orbitJoins}
 use Rattle.writer.proofs.Laying.{laysLength}
