@@ -19,7 +19,7 @@ use Rattle.parts.specs.Sharing.{isSame}
 use Rattle.parts.specs.declared.Part.the-variants.{Component}
 use Rattle.parts.proofs.Lifting.{liftsByDarts, liftsAddUp}
 use Rattle.kernel.specs.Calls.{tableFault, reportOn, questionFault, componentReportOf}
-use Rattle.kernel.specs.ComponentReports.{IsOneComponent, sumOfReports, ReportsAddUp, ComponentPromise}
+use Rattle.kernel.specs.ComponentReports.{IsOfOneComponent, sumOfReports, ReportsAddUp, ComponentPromise}
 use Rattle.kernel.specs.declared.Totals.{Totals}
 use Rattle.kernel.proofs.Judging.{Reported, tablePassed, planReported, reportPassed, dartReady, dartFits}
 use Rattle.kernel.proofs.Judging.{questionTable, componentPassed, componentReported}
@@ -42,14 +42,13 @@ module _ (w : Table) (x : ℕ) (z : questionFault w (x ∷ []) ≡ 0) where
       ap (λ n. reportOn n (componentAt (hypermapOf w) y)) (f ∙ sym z) ∙
       ap (reportOn (questionFault w (x ∷ []))) (componentShared (hypermapOf w) wf x y dart t)
 
-  oneComponent : IsOneComponent w x
+  oneComponent : IsOfOneComponent (componentReportOf w x)
   oneComponent =
       let r = componentReported w x z in
       record {
         components = r .components ∙ connected .one;
         lifts = rw (r .lifts, r .darts) (liftsByDarts (hypermapOf w) wf x dart);
         euler = rw (r .vertices, r .edges, r .faces, r .genus, r .darts) (connected .euler);
-        shared = shared;
       }
 
 -- ALL
@@ -92,5 +91,6 @@ module _ (w : Table) (t : tableFault w ≡ 0) where
 pub componentPromise : ComponentPromise
 componentPromise = record {
   one = λ w x e. oneComponent w x (componentPassed w x e);
+  shared = λ w x y e. shared w x (componentPassed w x e) y;
   all = λ w e. addsUp w (reportPassed w e);
 }

@@ -11,16 +11,11 @@ use Rattle.parts.specs.declared.Part.the-variants.{Component}
 use Rattle.kernel.specs.Calls.{reportOf, componentReportOf}
 use Rattle.kernel.specs.declared.Totals.{Totals}
 
--- "Its handles are never negative": Euler's formula for one component has a solution, which is the genus
-pub record IsOneComponent (w : Table) (x : ℕ) : Type 0 where
-  pub components : componentReportOf w x .components ≡ 1
-  pub lifts : componentReportOf w x .lifts ≡ cond (leb 2 (componentReportOf w x .darts)) 1 0
-  pub euler :
-      componentReportOf w x .vertices + componentReportOf w x .edges + componentReportOf w x .faces +
-      2 * componentReportOf w x .genus ≡
-      2 + componentReportOf w x .darts
-  -- whichever dart of the component is named
-  pub shared : (y : ℕ) → isSame w Component x y ≡ true → componentReportOf w y ≡ componentReportOf w x
+-- "Its handles are never negative": Euler's formula for one component, which the genus solves
+pub record IsOfOneComponent (t : Totals) : Type 0 where
+  pub components : t .components ≡ 1
+  pub lifts : t .lifts ≡ cond (leb 2 (t .darts)) 1 0
+  pub euler : t .vertices + t .edges + t .faces + 2 * t .genus ≡ 2 + t .darts
 
 -- "and over all pieces they add up to the plan's", as the other numbers do: each component by its smallest dart
 abbrev pub sumOfReports : Table → (Totals → ℕ) → ℕ
@@ -39,5 +34,9 @@ pub record ReportsAddUp (w : Table) : Type 0 where
   pub lifts : sumOfReports w (λ t. t .lifts) ≡ reportOf w .lifts
 
 pub record ComponentPromise : Type 0 where
-  pub one : (w : Table) (x : ℕ) → componentReportOf w x .number ≡ 0 → IsOneComponent w x
+  pub one : (w : Table) (x : ℕ) → componentReportOf w x .number ≡ 0 → IsOfOneComponent (componentReportOf w x)
+  -- whichever dart of the component is named
+  pub shared :
+      (w : Table) (x y : ℕ) → componentReportOf w x .number ≡ 0 → isSame w Component x y ≡ true →
+      componentReportOf w y ≡ componentReportOf w x
   pub all : (w : Table) → reportOf w .number ≡ 0 → ReportsAddUp w
