@@ -7,11 +7,11 @@ use Prim.Native.Nat.{ℕ}
 use lib.ListN.{length}
 use Rattle.hypermap.specs.Hypermap.{edge, vertex, Hypermap, isHypermap, of, face, edges, vertices, faces, components}
 use Rattle.hypermap.specs.Hypermap.{genus, componentAt}
-use Rattle.hypermap.specs.Laws.{componentRoots, sumOverComponents, IsConnected, AddsUp}
+use Rattle.hypermap.specs.Laws.{representatives, sumOverComponents, IsConnected, AddsUp}
 use Rattle.hypermap.proofs.Basics.Lists.{Mem}
 use Rattle.hypermap.proofs.Basics.Sums.{sumExt, sumOfIntegersExt}
 use Rattle.hypermap.proofs.Laws.Components.{componentLaw}
-use Rattle.hypermap.proofs.Laws.ComponentGenus.{componentShared, rootDart, componentGenusLaw}
+use Rattle.hypermap.proofs.Laws.ComponentGenus.{componentShared, representativeDart, componentGenusLaw}
 use Rattle.table.specs.Layout.{Table, hypermapOf}
 use Rattle.table.proofs.Soundness.{memPresent, soundHypermap}
 use Rattle.parts.specs.Counts.{lifts}
@@ -62,14 +62,14 @@ module _ (w : Table) (t : tableFault w ≡ 0) where
   sums : AddsUp m
   sums = componentGenusLaw m wfAll .1
 
-  given : (x : ℕ) → Mem x (componentRoots m) → Reported (componentReportOf w x) (componentAt m x)
-  given x i = componentReported w x (dartFits w x t (rw memPresent at (rootDart m wfAll x i)))
+  given : (x : ℕ) → Mem x (representatives m) → Reported (componentReportOf w x) (componentAt m x)
+  given x i = componentReported w x (dartFits w x t (rw memPresent at (representativeDart m wfAll x i)))
 
   sum :
       (f : Totals → ℕ) (g : Hypermap → ℕ) →
       ((x : ℕ) → Reported (componentReportOf w x) (componentAt m x) → f (componentReportOf w x) ≡ g (componentAt m x)) →
       sumOfReports w f ≡ sumOverComponents m g
-  sum f g h = sumExt _ _ (componentRoots m) (λ x i. h x (given x i))
+  sum f g h = sumExt _ _ (representatives m) (λ x i. h x (given x i))
 
   addsUp : ReportsAddUp w
   addsUp =
@@ -82,7 +82,7 @@ module _ (w : Table) (t : tableFault w ≡ 0) where
         components =
             sum (λ t. t .components) components (λ x k. k .components) ∙ sums .components ∙ sym (r .components);
         characteristic =
-            sumOfIntegersExt _ _ (componentRoots m) (λ x i. given x i .characteristic) ∙ sums .characteristic ∙
+            sumOfIntegersExt _ _ (representatives m) (λ x i. given x i .characteristic) ∙ sums .characteristic ∙
             sym (r .characteristic);
         genus = sum (λ t. t .genus) genus (λ x k. k .genus) ∙ sums .genus ∙ sym (r .genus);
         lifts = sum (λ t. t .lifts) lifts (λ x k. k .lifts) ∙ liftsAddUp m wfAll ∙ sym (r .lifts);

@@ -4,7 +4,7 @@ use mathlib.Core.Bool.{true, cond}
 use Prim.Native.Nat.{ℕ, _+_, _*_}
 use lib.Dec.{leb}
 use Rattle.hypermap.specs.Lists.{sumOf, sumOfIntegers}
-use Rattle.hypermap.specs.Laws.{componentRoots}
+use Rattle.hypermap.specs.Laws.{representatives}
 use Rattle.table.specs.Layout.{Table, hypermapOf}
 use Rattle.parts.specs.Sharing.{isSame}
 use Rattle.parts.specs.declared.Part.the-variants.{Component}
@@ -19,7 +19,7 @@ pub record IsOfOneComponent (t : Totals) : Type 0 where
 
 -- "and over all pieces they add up to the plan's", as the other numbers do: each component by its smallest dart
 abbrev pub sumOfReports : Table → (Totals → ℕ) → ℕ
-sumOfReports w f = sumOf (λ x. f (componentReportOf w x)) (componentRoots (hypermapOf w))
+sumOfReports w f = sumOf (λ x. f (componentReportOf w x)) (representatives (hypermapOf w))
 
 pub record ReportsAddUp (w : Table) : Type 0 where
   pub darts : sumOfReports w (λ t. t .darts) ≡ reportOf w .darts
@@ -28,7 +28,7 @@ pub record ReportsAddUp (w : Table) : Type 0 where
   pub faces : sumOfReports w (λ t. t .faces) ≡ reportOf w .faces
   pub components : sumOfReports w (λ t. t .components) ≡ reportOf w .components
   pub characteristic :
-      sumOfIntegers (λ x. componentReportOf w x .characteristic) (componentRoots (hypermapOf w)) ≡
+      sumOfIntegers (λ x. componentReportOf w x .characteristic) (representatives (hypermapOf w)) ≡
       reportOf w .characteristic
   pub genus : sumOfReports w (λ t. t .genus) ≡ reportOf w .genus
   pub lifts : sumOfReports w (λ t. t .lifts) ≡ reportOf w .lifts

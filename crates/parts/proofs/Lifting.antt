@@ -11,7 +11,7 @@ use borrow.Author.Tests.{eqb-false, ne-eqb, le-leb, lt-leb, leb-true}
 use Rattle.hypermap.specs.Lists.{keep, distinct, among}
 use Rattle.hypermap.specs.Hypermap.{Dimension, edge, vertex, Hypermap, isDart, isHypermap, componentOf, sameComponent}
 use Rattle.hypermap.specs.Hypermap.{of, face, isLeastIn, componentAt}
-use Rattle.hypermap.specs.Laws.{compose, IsComponent, componentRoots}
+use Rattle.hypermap.specs.Laws.{compose, IsComponent, representatives}
 use Rattle.hypermap.specs.RingLaws.{Untouched}
 use Rattle.hypermap.proofs.Basics.Bools.{byCases, clash, boolExt, refuted, andRight, andTrue}
 use Rattle.hypermap.proofs.Basics.Lists.{Mem, memHead, memTail, memNil, memCases, keepMem, memKept, keepExt}
@@ -19,7 +19,7 @@ use Rattle.hypermap.proofs.Basics.Lists.{distinctCons, risingKeep, risingDistin
 use Rattle.hypermap.proofs.Basics.Sums.{sumOnes, sumBoth, keptNone}
 use Rattle.hypermap.proofs.Hypermaps.Totals.{up}
 use Rattle.hypermap.proofs.Laws.Components.{bothHome, componentLaw}
-use Rattle.hypermap.proofs.Laws.ComponentGenus.{isConnected, inC, rootDart, sumKept}
+use Rattle.hypermap.proofs.Laws.ComponentGenus.{isConnected, inC, representativeDart, sumKept}
 use Rattle.hypermap.proofs.Laws.Counts.{countLaw}
 use Rattle.table.specs.Layout.{Table, capacity, isPresent}
 use Rattle.table.specs.Commands.{isAlone}
@@ -164,9 +164,10 @@ untouchedCounts m n wf wf′ e x d u =
 -- ALL COMPONENTS
 pub liftsAddUp : LiftsAddUp
 liftsAddUp m wf =
-    let both = sumBoth (λ r. lifts (componentAt m r)) (λ r. length (aloneDarts (componentAt m r))) (componentRoots m) in
-    let ones = sumOnes (λ r. lifts (componentAt m r) + length (aloneDarts (componentAt m r))) (componentRoots m)
-    (λ r i. oneOrAlone m wf r (rootDart m wf r i)) in
+    let both = sumBoth (λ r. lifts (componentAt m r)) (λ r. length (aloneDarts (componentAt m r)))
+    (representatives m) in
+    let ones = sumOnes (λ r. lifts (componentAt m r) + length (aloneDarts (componentAt m r))) (representatives m)
+    (λ r i. oneOrAlone m wf r (representativeDart m wf r i)) in
     omega (arith, both, ones, sumKept m wf (isAloneIn m), liftsLaw m wf)
 
 -- a number without a dart is not alone: its words are zeros

@@ -11,7 +11,7 @@ use Rattle.hypermap.specs.Lists.{keep, sumOf, sumOfIntegers}
 use Rattle.hypermap.specs.Hypermap.{edge, vertex, Hypermap, isHypermap, Kind, of, face, orbitOf, componentOf}
 use Rattle.hypermap.specs.Hypermap.{sameComponent, isLeastIn, orbits, edges, vertices, faces, components}
 use Rattle.hypermap.specs.Hypermap.{allOrbits, characteristic, genus, restrict, componentAt}
-use Rattle.hypermap.specs.Laws.{componentRoots, sumOverComponents, IsConnected, ComponentGenusLaw}
+use Rattle.hypermap.specs.Laws.{representatives, sumOverComponents, IsConnected, ComponentGenusLaw}
 use Rattle.hypermap.proofs.Basics.Bools.{boolExt}
 use Rattle.hypermap.proofs.Basics.Lists.{Mem, keepMem, memKept, keepAll, risingKeep, risingDistinct}
 use Rattle.hypermap.proofs.Hypermaps.Totals.{up}
@@ -57,14 +57,11 @@ module _ (m : Hypermap) (wf : isHypermap m ≡ true) (x : ℕ) (d : Mem x (m .da
 
 -- ALL COMPONENTS
 module _ (m : Hypermap) (wf : isHypermap m ≡ true) where
-  abbrev roots : List ℕ
-  roots = componentRoots m
+  pub representativeDart : (x : ℕ) → Mem x (representatives m) → Mem x (m .darts)
+  representativeDart x i = memKept (isLeastIn (componentOf m)) (m .darts) x i .0
 
-  pub rootDart : (x : ℕ) → Mem x roots → Mem x (m .darts)
-  rootDart x i = memKept (isLeastIn (componentOf m)) (m .darts) x i .0
-
-  rootOf : (x : ℕ) → Mem x (m .darts) → (r : ℕ) × Mem r roots × (sameComponent m r x ≡ true)
-  rootOf x d =
+  representativeOf : (x : ℕ) → Mem x (m .darts) → (r : ℕ) × Mem r (representatives m) × (sameComponent m r x ≡ true)
+  representativeOf x d =
       let l = countLaw m wf x d .1 in
       let q = componentLaw m wf .1 in (
         l .least,
@@ -72,52 +69,59 @@ module _ (m : Hypermap) (wf : isHypermap m ≡ true) where
         q .symmetric x (l .least) d (l .member),
       )
 
-  oneRoot : (y : ℕ) → Mem y (m .darts) → length (keep (λ r. sameComponent m r y) roots) ≡ 1
-  unfolding rootOf
-  oneRoot y d =
+  oneRepresentative : (y : ℕ) → Mem y (m .darts) → length (keep (λ r. sameComponent m r y) (representatives m)) ≡ 1
+  unfolding representativeOf
+  oneRepresentative y d =
       let l = countLaw m wf y d .1 in
       let q = componentLaw m wf .1 in
-      let r = rootOf y d in
-      keptOne (λ r. sameComponent m r y) roots (r .0)
-      (risingDistinct roots (risingKeep (isLeastIn (componentOf m)) (m .darts) (up m wf))) (r .1) (r .2)
-      (λ x i t. l .unique x (q .symmetric x y (rootDart x i) t) (memKept (isLeastIn (componentOf m)) (m .darts) x i .1))
+      let r = representativeOf y d in
+      keptOne (λ r. sameComponent m r y) (representatives m) (r .0)
+      (risingDistinct (representatives m) (risingKeep (isLeastIn (componentOf m)) (m .darts) (up m wf))) (r .1) (r .2)
+      (λ x i t. l .unique x (q .symmetric x y (representativeDart x i) t)
+      (memKept (isLeastIn (componentOf m)) (m .darts) x i .1))
 
   -- the darts that pass a test, counted in each component
   pub sumKept :
       (p : ℕ → Bool) →
-      sumOf (λ r. length (keep p (keep (sameComponent m r) (m .darts)))) roots ≡ length (keep p (m .darts))
-  sumKept p = sumOfParts (sameComponent m) p roots (m .darts) oneRoot
+      sumOf (λ r. length (keep p (keep (sameComponent m r) (m .darts)))) (representatives m) ≡
+      length (keep p (m .darts))
+  sumKept p = sumOfParts (sameComponent m) p (representatives m) (m .darts) oneRepresentative
 
   sumDarts : sumOverComponents m (λ c. length (c .darts)) ≡ length (m .darts)
   sumDarts =
-      sumExt _ _ roots (λ r i. sym (ap length (keepAll (keep (sameComponent m r) (m .darts))))) ∙ sumKept (λ x. true) ∙
+      sumExt _ _ (representatives m) (λ r i. sym (ap length (keepAll (keep (sameComponent m r) (m .darts))))) ∙
+      sumKept (λ x. true) ∙
       ap length (keepAll (m .darts))
 
   sumOrbits : (o : Kind) → sumOverComponents m (λ c. orbits c o) ≡ orbits m o
   sumOrbits o =
-      sumExt _ _ roots (λ r i. ap (λ f. length (keep (isLeastIn f) (keep (sameComponent m r) (m .darts))))
+      sumExt _ _ (representatives m) (λ r i. ap (λ f. length (keep (isLeastIn f) (keep (sameComponent m r) (m .darts))))
       (orbitRestrict m (sameComponent m r) o)) ∙ sumKept (isLeastIn (orbitOf m o))
 
   sumComponents : sumOverComponents m components ≡ components m
-  sumComponents = sumOnes (λ r. components (componentAt m r)) roots (λ r i. isConnected m wf r (rootDart r i) .one)
+  sumComponents =
+      sumOnes (λ r. components (componentAt m r)) (representatives m)
+      (λ r i. isConnected m wf r (representativeDart r i) .one)
 
   sumOrbitsAll : sumOverComponents m allOrbits ≡ allOrbits m
   sumOrbitsAll =
-      sumBoth (λ r. vertices (componentAt m r) + edges (componentAt m r)) (λ r. faces (componentAt m r)) roots ∙
+      sumBoth (λ r. vertices (componentAt m r) + edges (componentAt m r)) (λ r. faces (componentAt m r))
+      (representatives m) ∙
       ap (λ n. n + sumOverComponents m faces)
-      (sumBoth (λ r. vertices (componentAt m r)) (λ r. edges (componentAt m r)) roots) ∙
+      (sumBoth (λ r. vertices (componentAt m r)) (λ r. edges (componentAt m r)) (representatives m)) ∙
       cc (sumOrbits (of vertex), sumOrbits (of edge), sumOrbits face)
 
-  sumCharacteristic : sumOfIntegers (λ r. characteristic (componentAt m r)) roots ≡ characteristic m
+  sumCharacteristic : sumOfIntegers (λ r. characteristic (componentAt m r)) (representatives m) ≡ characteristic m
   sumCharacteristic =
-      sumDifferences (λ r. allOrbits (componentAt m r)) (λ r. length (componentAt m r .darts)) roots ∙
+      sumDifferences (λ r. allOrbits (componentAt m r)) (λ r. length (componentAt m r .darts)) (representatives m) ∙
       cc (sumOrbitsAll, sumDarts)
 
   sumGenus : sumOverComponents m genus ≡ genus m
   sumGenus =
       let b = sumBalance (λ r. orbits (componentAt m r) (of vertex)) (λ r. orbits (componentAt m r) (of edge))
-      (λ r. orbits (componentAt m r) face) (λ r. genus (componentAt m r)) (λ r. length (componentAt m r .darts)) roots
-      (λ r i. isConnected m wf r (rootDart r i) .euler) in
+      (λ r. orbits (componentAt m r) face) (λ r. genus (componentAt m r)) (λ r. length (componentAt m r .darts))
+      (representatives m)
+      (λ r i. isConnected m wf r (representativeDart r i) .euler) in
       omega (arith, b, sumOrbits (of vertex), sumOrbits (of edge), sumOrbits face, sumDarts, eulerEquation m wf)
 
 -- the darts of a component have it in common
@@ -134,9 +138,9 @@ componentShared m wf x y d t =
 pub genusBelow :
     (m : Hypermap) (wf : isHypermap m ≡ true) (x : ℕ) → Mem x (m .darts) → genus (componentAt m x) ≤ genus m
 genusBelow m wf x d =
-    let r = rootOf m wf x d in
-    let same = componentShared m wf (r .0) x (rootDart m wf (r .0) (r .1)) (r .2) in
-    let below = sumMember (λ y. genus (componentAt m y)) (roots m wf) (r .0) (r .1) in
+    let r = representativeOf m wf x d in
+    let same = componentShared m wf (r .0) x (representativeDart m wf (r .0) (r .1)) (r .2) in
+    let below = sumMember (λ y. genus (componentAt m y)) (representatives m) (r .0) (r .1) in
     subst (λ c. genus c ≤ genus m) (sym same) (omega (arith, below, sumGenus m wf))
 
 pub componentGenusLaw : ComponentGenusLaw
