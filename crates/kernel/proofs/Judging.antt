@@ -71,7 +71,7 @@ pub record Reported (t : Totals) (m : Hypermap) : Type 0 where
   pub genus : t .genus ≡ genus m
   pub lifts : t .lifts ≡ lifts m
 
-pub reported : (n : ℕ) (m : Hypermap) → n ≡ 0 → Reported (reportOn n m) m
+reported : (n : ℕ) (m : Hypermap) → n ≡ 0 → Reported (reportOn n m) m
 unfolding reportOn countsOf
 reported n m e =
     let t = eq-eqb n 0 e in

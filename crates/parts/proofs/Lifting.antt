@@ -98,7 +98,7 @@ module _ (m : Hypermap) (wf : isHypermap m ≡ true) (x : ℕ) (d : Mem x (m .da
   abbrev c : Hypermap
   c = componentAt m x
 
-  pub oneOrAlone : lifts c + length (aloneDarts c) ≡ 1
+  oneOrAlone : lifts c + length (aloneDarts c) ≡ 1
   oneOrAlone = let i = isConnected m wf x d in liftsLaw c (i .hypermap) ∙ i .one
 
   pub liftsAlone : isAloneIn m x ≡ true → lifts c ≡ 0

@@ -42,10 +42,10 @@ module _
   onDarts : (y : ℕ) → Mem y (hypermapOf w .darts) → isMarked m v y ≡ among y part
   onDarts y d = paintedTest y (dartOne w y d)
 
-  pub paintedIs : markedIn w m v ≡ restrict (λ y. among y part) (hypermapOf w)
+  paintedIs : markedIn w m v ≡ restrict (λ y. among y part) (hypermapOf w)
   paintedIs = restrictExt (hypermapOf w) (isMarked m v) (λ y. among y part) onDarts
 
-  pub paintedSet :
+  paintedSet :
       ((y : ℕ) → among y part ≡ true → isPresent w y ≡ true) → Closed (hypermapOf w) (λ y. among y part) →
       MarkedSet w m v
   paintedSet darts closed = record {
@@ -116,7 +116,7 @@ module _ (w : Table) (m : List ℕ) (v : ℕ) (k : MarkedSet w m v) where
   pub markedFew : length (markedIn w m v .darts) ≤ 4096
   markedFew = omega (arith, keepShorter (isMarked m v) (hypermapOf w .darts), dartsFew w, k .room .room)
 
-  pub inSetTest : (y : ℕ) → 1 ≤ y → inSet w m v y ≡ isMarked m v y
+  inSetTest : (y : ℕ) → 1 ≤ y → inSet w m v y ≡ isMarked m v y
   inSetTest y l =
       boolExt (inSet w m v y) (isMarked m v y) (andRight (isPresent w y) (isMarked m v y))
       (λ t. andTrue (isPresent w y) (isMarked m v y) (k .darts y l t) t)
