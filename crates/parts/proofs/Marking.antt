@@ -83,7 +83,7 @@ pub record Sweep : Type 0 where
   pub fresh : (x mark : ℕ) → Bool
   pub size : ℕ
 
--- by which it knows the darts that it has not reached
+-- the test tells the darts that the pass has not reached from all other numbers
 pub record Pass (w : Table) (s : Sweep) : Type 0 where
   pub room : capacity w ≤ s .size
   pub holds : Holds w (s .darts) (s .part)
