@@ -23,7 +23,7 @@ use Rattle.table.proofs.Soundness.{low, memPresent, soundHypermap, dartsFew}
 use Rattle.table.proofs.Zeros.{zeroAt}
 use Rattle.parts.specs.Inner.{markAt, Painted, isMarked, markedIn, MarkedSet, Raised}
 use Rattle.parts.proofs.Counting.{keepBoth}
-use Rattle.parts.proofs.Marking.{Sweep, Pass, Passed, passedNone, passedCount, passedInside}
+use Rattle.parts.proofs.Marking.{Holds, Sweep, Pass, Passed, passedNone, passedCount, passedInside}
 use Rattle.parts.proofs.Walking.{orbitParts}
 
 dartOne : (w : Table) (x : ℕ) → Mem x (hypermapOf w .darts) → 1 ≤ x
@@ -77,16 +77,16 @@ module _
           back = λ k x d t. links (hypermapOf w) wfTable k .keeps x d;
         })
 
-  module _ (x : ℕ) (here : isPresent w x ≡ true) (q : Painted (componentOf (hypermapOf w) x) x (replicate n 0) m) where
+  module _ (x : ℕ) (here : isPresent w x ≡ true) (q : Painted (componentOf (hypermapOf w) x) 1 (replicate n 0) m) where
     dart : Mem x (hypermapOf w .darts)
     dart = rw memPresent here
 
-    pub componentIs : markedIn w m x ≡ componentAt (hypermapOf w) x
-    componentIs = paintedIs w s n room size (componentOf (hypermapOf w) x) x (low w x here) m long q
+    pub componentIs : markedIn w m 1 ≡ componentAt (hypermapOf w) x
+    componentIs = paintedIs w s n room size (componentOf (hypermapOf w) x) 1 (omega arith) m long q
 
-    pub componentSet : MarkedSet w m x
+    pub componentSet : MarkedSet w m 1
     componentSet =
-        paintedSet w s n room size (componentOf (hypermapOf w) x) x (low w x here) m long q
+        paintedSet w s n room size (componentOf (hypermapOf w) x) 1 (omega arith) m long q
         (λ y t. rw memPresent at (componentLaw (hypermapOf w) wfTable .1 .within x y dart t))
         (componentClosed (hypermapOf w) wfTable x dart)
 
@@ -94,16 +94,21 @@ module _
 abbrev pub inSet : Table → (marks : List ℕ) → (value y : ℕ) → Bool
 inSet w m v y = isPresent w y && isMarked m v y
 
--- a pass over its orbits of a kind, which raises the mark
-abbrev pub raisingSweep : Table → (marks : List ℕ) → (value : ℕ) → Kind → Sweep
-raisingSweep w m v c = record {
+-- a pass over its orbits of a kind, with the marks that it leaves and the code's test
+abbrev pub setSweep :
+    Table → (marks : List ℕ) → (value : ℕ) → Kind → (after : ℕ → ℕ) → (fresh : ℕ → ℕ → Bool) → Sweep
+setSweep w m v c after fresh = record {
   darts = inSet w m v;
   part = orbitOf (hypermapOf w) c;
   before = markAt m;
-  after = λ y. v + 1;
-  fresh = λ y u. eqb u v;
+  after = after;
+  fresh = fresh;
   size = length m;
 }
+
+-- one that raises the mark
+abbrev pub raisingSweep : Table → (marks : List ℕ) → (value : ℕ) → Kind → Sweep
+raisingSweep w m v c = setSweep w m v c (λ y. v + 1) (λ y u. eqb u v)
 
 -- A MARKED SET is a hypermap by itself, with few darts
 module _ (w : Table) (m : List ℕ) (v : ℕ) (k : MarkedSet w m v) where
@@ -116,7 +121,7 @@ module _ (w : Table) (m : List ℕ) (v : ℕ) (k : MarkedSet w m v) where
   pub markedFew : length (markedIn w m v .darts) ≤ 4096
   markedFew = omega (arith, keepShorter (isMarked m v) (hypermapOf w .darts), dartsFew w, k .room .room)
 
-  inSetTest : (y : ℕ) → 1 ≤ y → inSet w m v y ≡ isMarked m v y
+  pub inSetTest : (y : ℕ) → 1 ≤ y → inSet w m v y ≡ isMarked m v y
   inSetTest y l =
       boolExt (inSet w m v y) (isMarked m v y) (andRight (isPresent w y) (isMarked m v y))
       (λ t. andTrue (isPresent w y) (isMarked m v y) (k .darts y l t) t)
@@ -128,41 +133,48 @@ module _ (w : Table) (m : List ℕ) (v : ℕ) (k : MarkedSet w m v) where
   inSetDarts = ap length (sym (keepBoth (isPresent w) (isMarked m v) (numbers w)))
 
   module _ (c : Kind) where
-    pub raisingPass : Pass w (raisingSweep w m v c)
-    raisingPass = record {
-      room = k .room .size;
-      holds = record {
-        parts = orbitParts w (k .sound) c;
-        darts = λ x t. andLeft (isPresent w x) (isMarked m v x) t;
-        closed = λ x y t i.
-            let d : Mem x (hypermapOf w .darts) = rw memPresent (andLeft (isPresent w x) (isMarked m v x) t) in
-            andTrue (isPresent w y) (isMarked m v y) (rw memPresent at (orbitParts w (k .sound) c .within x y d i))
-            (closedOrbit (hypermapOf w) wf (isMarked m v) (k .closed) c x y d
-            (andRight (isPresent w x) (isMarked m v x) t) i);
-      };
-      shared = λ x y t i. refl;
-      unreached = λ x t. andRight (isPresent w x) (isMarked m v x) t;
-      reached = λ x t. ne-eqb (v + 1) v (λ e. omega arith);
-      others = λ x l t. sym (inSetTest x l) ∙ t;
+    pub setHolds : Holds w (inSet w m v) (orbitOf (hypermapOf w) c)
+    setHolds = record {
+      parts = orbitParts w (k .sound) c;
+      darts = λ x t. andLeft (isPresent w x) (isMarked m v x) t;
+      closed = λ x y t i.
+          let d : Mem x (hypermapOf w .darts) = rw memPresent (andLeft (isPresent w x) (isMarked m v x) t) in
+          andTrue (isPresent w y) (isMarked m v y) (rw memPresent at (orbitParts w (k .sound) c .within x y d i))
+          (closedOrbit (hypermapOf w) wf (isMarked m v) (k .closed) c x y d
+          (andRight (isPresent w x) (isMarked m v x) t) i);
     }
 
-    pub raisingNone : Passed w (raisingSweep w m v c) 1 0 m
-    raisingNone = passedNone w (raisingSweep w m v c) raisingPass m refl (λ y l. refl)
+    -- whatever the pass leaves and tests
+    module _ (after : ℕ → ℕ) (fresh : ℕ → ℕ → Bool) (g : Pass w (setSweep w m v c after fresh)) where
+      pub setNone : Passed w (setSweep w m v c after fresh) 1 0 m
+      setNone = passedNone w (setSweep w m v c after fresh) g m refl (λ y l. refl)
 
-    module _ (x count : ℕ) (n : List ℕ) (p : Passed w (raisingSweep w m v c) x count n) (h : capacity w < x) where
-      pub raisingCount : count ≡ orbits (markedIn w m v) c
-      raisingCount =
-          passedCount w (raisingSweep w m v c) raisingPass x count n p h ∙
+      pub setCount :
+          (x count : ℕ) (n : List ℕ) → Passed w (setSweep w m v c after fresh) x count n → capacity w < x →
+          count ≡ orbits (markedIn w m v) c
+      setCount x count n p h =
+          passedCount w (setSweep w m v c after fresh) g x count n p h ∙
           ap (λ ds. length (keep (isLeastIn (orbitOf (hypermapOf w) c)) ds))
           (sym (keepBoth (isPresent w) (isMarked m v) (numbers w))) ∙
           ap (λ f. length (keep (isLeastIn f) (markedIn w m v .darts)))
           (sym (orbitRestrict (hypermapOf w) (isMarked m v) c))
 
-      pub raisingDone : Raised v m n
-      raisingDone = record {
-        inside = λ y l t. passedInside w (raisingSweep w m v c) raisingPass x count n p h y (inSetTest y l ∙ t);
-        outside = λ y l t. p .outside y l (inSetTest y l ∙ t);
-      }
+    pub raisingPass : Pass w (raisingSweep w m v c)
+    raisingPass = record {
+      room = k .room .size;
+      holds = setHolds;
+      shared = λ x y t i. refl;
+      unreached = λ x t e. andRight (isPresent w x) (isMarked m v x) t;
+      reached = λ x t l. ne-eqb (v + 1) v (λ e. omega arith);
+      others = λ x l t. sym (inSetTest x l) ∙ t;
+    }
+
+    pub raisingDone :
+        (x count : ℕ) (n : List ℕ) → Passed w (raisingSweep w m v c) x count n → capacity w < x → Raised v m n
+    raisingDone x count n p h = record {
+      inside = λ y l t. passedInside w (raisingSweep w m v c) raisingPass x count n p h y (inSetTest y l ∙ t);
+      outside = λ y l t. p .outside y l (inSetTest y l ∙ t);
+    }
 
   -- RAISED, it is the same set
   module _ (n : List ℕ) (long : length n ≡ length m) (r : Raised v m n) where

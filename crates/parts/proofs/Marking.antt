@@ -83,13 +83,14 @@ pub record Sweep : Type 0 where
   pub fresh : (x mark : ℕ) → Bool
   pub size : ℕ
 
--- the test tells the darts that the pass has not reached from all other numbers
+-- the test is passed by the smallest dart of a part that is not reached; the part's others fail it once they are
+-- reached, and so do all other numbers
 pub record Pass (w : Table) (s : Sweep) : Type 0 where
   pub room : capacity w ≤ s .size
   pub holds : Holds w (s .darts) (s .part)
   pub shared : (x y : ℕ) → s .darts x ≡ true → among y (s .part x) ≡ true → s .after y ≡ s .after x
-  pub unreached : (x : ℕ) → s .darts x ≡ true → s .fresh x (s .before x) ≡ true
-  pub reached : (x : ℕ) → s .darts x ≡ true → s .fresh x (s .after x) ≡ false
+  pub unreached : (x : ℕ) → s .darts x ≡ true → smallest (s .part) x ≡ x → s .fresh x (s .before x) ≡ true
+  pub reached : (x : ℕ) → s .darts x ≡ true → smallest (s .part) x < x → s .fresh x (s .after x) ≡ false
   pub others : (x : ℕ) → 1 ≤ x → s .darts x ≡ false → s .fresh x (s .before x) ≡ false
 
 -- it stands at x: the parts whose smallest dart is below x are marked, and so many were counted
@@ -126,8 +127,8 @@ module _ (w : Table) (s : Sweep) (g : Pass w s) where
     module _ (h : x ≤ capacity w) where
       pub passedMark : InTable w x 0 × HasMark m x
       passedMark = (
-        record { low = c .counted .low; high = h; word = omega arith },
-        record { low = c .counted .low; high = omega (arith, c .size, g .room) },
+        record { low = c .counted .ones .low; high = h; word = omega arith },
+        record { low = c .counted .ones .low; high = omega (arith, c .size, g .room) },
       )
 
       pub freshLeast : s .fresh x (markAt m x) ≡ true → (p x ≡ true) × (first x ≡ x)
@@ -136,15 +137,16 @@ module _ (w : Table) (s : Sweep) (g : Pass w s) where
           (λ u. (
             u,
             byCases (ltb (first x) x)
-                (λ b. clash t (ap (s .fresh x) (c .below x u (ltb-true (first x) x b)) ∙ g .reached x u))
+                (λ b. let l = ltb-true (first x) x b in
+                clash t (ap (s .fresh x) (c .below x u l) ∙ g .reached x u l))
                 (λ b. omega (arith, ltb-false (first x) x b, leastUp w p part (g .holds) x)),
           ))
-          (λ u. clash t (ap (s .fresh x) (c .outside x (c .counted .low) u) ∙ g .others x (c .counted .low) u))
+          (λ u. let o = c .counted .ones .low in clash t (ap (s .fresh x) (c .outside x o u) ∙ g .others x o u))
 
       leastFresh : p x ≡ true → first x ≡ x → s .fresh x (markAt m x) ≡ true
-      leastFresh u e = ap (s .fresh x) (c .above x u (omega arith)) ∙ g .unreached x u
+      leastFresh u e = ap (s .fresh x) (c .above x u (omega arith)) ∙ g .unreached x u e
 
-      isFirst : s .fresh x (markAt m x) ≡ (p x && isLeastIn part x)
+      pub isFirst : s .fresh x (markAt m x) ≡ (p x && isLeastIn part x)
       isFirst =
           boolExt _ _
           (λ t. let r = freshLeast t in andTrue (p x) (isLeastIn part x) (r .0) (eq-eqb _ x (r .1)))

@@ -1,15 +1,15 @@
--- How a flood goes on from dart to dart. Assumes nothing: these are definitions.
+-- How a flood goes on from face to face. Assumes nothing: these are definitions.
 use mathlib.Core.Path.{_≡_}
 use mathlib.Core.Bool.{true, cond}
 use mathlib.Core.List.{List, [], _∷_}
-use Prim.Native.Nat.{ℕ, _+_, _-_, _≤_}
+use Prim.Native.Nat.{ℕ, _+_, _≤_, _<_}
 use lib.Dec.{eqb}
-use lib.ListN.{length, set}
-use Rattle.hypermap.specs.Hypermap.{edge, vertex, sameComponent}
-use Rattle.table.specs.Layout.{Table, wordAt, nextWord, hypermapOf}
-use Rattle.parts.specs.Inner.{markAt, HasMark, MarkingAt}
+use lib.ListN.{length, getD}
+use Rattle.hypermap.specs.Hypermap.{edge, face, orbitOf, sameFace, sameComponent}
+use Rattle.table.specs.Layout.{Table, capacity, wordAt, backWord, hypermapOf}
+use Rattle.parts.specs.Inner.{markAt, MarkingAt, Painted}
 
--- the darts that a flood has marked stand in its queue, up to the tail
+-- the marks of a flood, and its queue up to the tail
 pub record Front : Type 0 where
   pub marks : List ℕ
   pub queue : List ℕ
@@ -18,34 +18,40 @@ pub record Front : Type 0 where
 abbrev pub front : (marks queue : List ℕ) → (tail : ℕ) → Front
 front m q n = record { marks = m; queue = q; tail = n }
 
--- dart y gets the mark x and a place in the queue, if it has no mark
-unfoldable pub visited : (x y : ℕ) → Front → Front
-visited x y f =
-    cond (eqb (markAt (f .marks) y) 0)
-    (front (set (f .marks) (y - 1) x) (set (f .queue) (f .tail) y) (f .tail + 1))
-    f
-
--- and so do both its successors
-abbrev pub expanded : Table → (x y : ℕ) → Front → Front
-expanded w x y f = visited x (wordAt w y (nextWord vertex)) (visited x (wordAt w y (nextWord edge)) f)
-
 -- how many numbers have no mark
 unfoldable pub unmarked : List ℕ → ℕ
 unmarked [] = 0
 unmarked (v ∷ m) = cond (eqb v 0) 1 0 + unmarked m
 
 -- each number without a mark has a place left in the queue
-pub record Visiting (y : ℕ) (f : Front) : Type 0 where
-  pub mark : HasMark (f .marks) y
-  pub room : unmarked (f .marks) + f .tail ≤ length (f .queue)
+abbrev pub HasPlaces : Front → Type 0
+HasPlaces f = unmarked (f .marks) + f .tail ≤ length (f .queue)
 
-pub record Expanding (w : Table) (x y : ℕ) (f : Front) : Type 0 where
-  pub low : 1 ≤ x
+-- what the face of y is entered with: it has no marks
+pub record Entering (w : Table) (y value : ℕ) (f : Front) : Type 0 where
+  pub low : 1 ≤ value
   pub marking : MarkingAt w y (f .marks)
-  pub room : unmarked (f .marks) + f .tail ≤ length (f .queue)
+  pub places : HasPlaces f
+  pub dry : (z : ℕ) → sameFace (hypermapOf w) y z ≡ true → markAt (f .marks) z ≡ 0
+
+-- place i of the queue has the edge predecessor of z
+abbrev pub HasBack : Table → (z : ℕ) → Front → (i : ℕ) → Type 0
+HasBack w z f i = (i < f .tail) × (getD (f .queue) i 0 ≡ wordAt w z (backWord edge))
+
+-- and what it is left with: it is marked, and behind the old tail stand the edge predecessors of its darts
+pub record Entered (w : Table) (y value : ℕ) (f g : Front) : Type 0 where
+  pub painted : Painted (orbitOf (hypermapOf w) face y) value (f .marks) (g .marks)
+  pub places : HasPlaces g
+  pub order : f .tail ≤ g .tail
+  pub before : (i : ℕ) → i < f .tail → getD (g .queue) i 0 ≡ getD (f .queue) i 0
+  pub behind :
+      (i : ℕ) → f .tail ≤ i → i < g .tail → (z : ℕ) × (sameFace (hypermapOf w) y z ≡ true) × HasBack w z g i
+  pub queued : (z : ℕ) → sameFace (hypermapOf w) y z ≡ true → (i : ℕ) × HasBack w z g i
 
 -- what a flood from x starts with: no mark in its component
-pub record Dry (w : Table) (x : ℕ) (marks queue : List ℕ) : Type 0 where
+pub record Dry (w : Table) (x value : ℕ) (marks queue : List ℕ) : Type 0 where
+  pub low : 1 ≤ value
+  pub few : capacity w ≤ 4096
   pub marking : MarkingAt w x marks
   pub room : length marks ≤ length queue
   pub dry : (y : ℕ) → sameComponent (hypermapOf w) x y ≡ true → markAt marks y ≡ 0

@@ -1,18 +1,19 @@
 -- What the inner functions are lent, and what they leave of the marks. Assumes nothing: these are definitions.
 use mathlib.Core.Path.{_≡_}
-use mathlib.Core.Bool.{Bool, true, false, _&&_}
+use mathlib.Core.Bool.{Bool, true, false, _&&_, _||_, not}
 use mathlib.Core.List.{List}
 use Prim.Native.Nat.{ℕ, _+_, _*_, _-_, _≤_}
-use lib.Dec.{eqb}
+use lib.Dec.{leb, eqb}
 use lib.IntN.{ℤ, pos, _+ℤ_}
 use lib.ListN.{length, getD}
 use Rattle.hypermap.specs.Lists.{among}
-use Rattle.hypermap.specs.Hypermap.{Hypermap, restrict, components}
+use Rattle.hypermap.specs.Hypermap.{edge, Hypermap, of, orbitOf, restrict}
 use Rattle.hypermap.specs.Hypermap as theory
 use Rattle.hypermap.specs.Laws.{Closed}
-use Rattle.table.specs.Layout.{Table, capacity, isPresent, isSound, hypermapOf}
+use Rattle.table.specs.Layout.{Table, capacity, wordAt, nextWord, isPresent, isSound, hypermapOf}
 use Rattle.table.specs.Inner.{SoundAt, SoundAtBoth}
 use Rattle.parts.specs.Counts as numbers
+use Rattle.parts.specs.declared.Flooded.{Flooded}
 
 -- a sound table that the kernel's local arrays have room for
 pub record Counted (w : Table) : Type 0 where
@@ -81,13 +82,28 @@ pub record Raised (value : ℕ) (before after : List ℕ) : Type 0 where
   pub inside : (y : ℕ) → 1 ≤ y → isMarked before value y ≡ true → markAt after y ≡ value + 1
   pub outside : (y : ℕ) → 1 ≤ y → isMarked before value y ≡ false → markAt after y ≡ markAt before y
 
--- how many components and lifts they have
-pub record MarkedParts (w : Table) (marks : List ℕ) (value components lifts : ℕ) : Type 0 where
-  pub set : MarkedSet w marks value
-  pub low : 1 ≤ value
-  pub high : value ≤ 4096
-  pub isComponents : components ≡ theory.components (markedIn w marks value)
-  pub isLifts : lifts ≡ numbers.lifts (markedIn w marks value)
+-- EDGES of at most two darts, and where an edge is counted: at its smaller dart, if it is one of those
+abbrev pub isShort : Table → (x : ℕ) → Bool
+isShort w x = eqb (wordAt w (wordAt w x (nextWord edge)) (nextWord edge)) x
+
+abbrev pub isTallied : Table → (x : ℕ) → Bool
+isTallied w x = not (isShort w x) || leb x (wordAt w x (nextWord edge))
+
+-- only a longer one is marked
+pub record EdgeLeft (w : Table) (x value : ℕ) (before after : List ℕ) : Type 0 where
+  pub short : isShort w x ≡ true → after ≡ before
+  pub long : isShort w x ≡ false → Painted (orbitOf (hypermapOf w) (of edge) x) value before after
+
+-- what is found where all darts of a hypermap are flooded
+unfoldable pub floodedOf : Hypermap → Flooded
+floodedOf m = record { components = theory.components m; lifts = numbers.lifts m; faces = theory.faces m }
+
+-- the darts with mark 1, and what floods have found of them
+pub record MarkedParts (w : Table) (marks : List ℕ) (components lifts faces : ℕ) : Type 0 where
+  pub set : MarkedSet w marks 1
+  pub isComponents : components ≡ theory.components (markedIn w marks 1)
+  pub isLifts : lifts ≡ numbers.lifts (markedIn w marks 1)
+  pub isFaces : faces ≡ theory.faces (markedIn w marks 1)
 
 -- COUNTS that an i32 has room for
 pub record Few (d e v f : ℕ) : Type 0 where
@@ -95,11 +111,6 @@ pub record Few (d e v f : ℕ) : Type 0 where
   pub edges : e ≤ 4096
   pub vertices : v ≤ 4096
   pub faces : f ≤ 4096
-
--- a sound table and the number of its components
-pub record CountedParts (w : Table) (number : ℕ) : Type 0 where
-  pub counted : Counted w
-  pub isComponents : number ≡ components (hypermapOf w)
 
 -- Euler's equation has a solution, which is the genus
 pub record HasGenus (components : ℕ) (characteristic : ℤ) : Type 0 where

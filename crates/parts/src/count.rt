@@ -3,17 +3,18 @@
 ghost use mathlib.Core.Path.{_≡_};
 ghost use Prim.Native.Nat.{_+_, _*_, _<_};
 ghost use lib.IntN.{pos, _+ℤ_, _-ℤ_};
-ghost use lib.ListN.{length};
-ghost use Rattle.hypermap.specs.Hypermap.{orbits, components, componentAt};
+ghost use lib.ListN.{length, replicate};
+ghost use Rattle.hypermap.specs.Hypermap.{orbits, componentAt};
 ghost use Rattle.table.specs.Layout.{hypermapOf};
 ghost use Rattle.table.specs.Inner.{kindOf};
-ghost use Rattle.parts.specs.Counts.{lifts, aloneDarts, countsOf};
-ghost use Rattle.parts.specs.Inner.{Counted, CountedAt, CountedParts, Few, HasGenus, MarkedSet, markedIn, Raised};
-ghost use Rattle.parts.specs.Inner.{MarkedParts};
+ghost use Rattle.parts.specs.Counts.{lifts, countsOf};
+ghost use Rattle.parts.specs.Inner.{Counted, CountedAt, Few, HasGenus, Painted, MarkedSet, markedIn, Raised};
+ghost use Rattle.parts.specs.Inner.{MarkedParts, floodedOf};
 use crate::Counts;
+use crate::Flooded;
+use crate::edges::count_edges;
 use crate::flood::flood;
-use crate::flood::mark_components;
-use crate::marks::mark_darts;
+use crate::marks::is_fresh;
 use crate::marks::mark_of;
 use crate::marks::mark_orbit;
 use table::Orbit;
@@ -36,42 +37,9 @@ pub fn count_darts(table: &[u16]) -> u32
     count
 }
 
-pub fn count_components(table: &[u16]) -> u32
-    requires { ⌜ Counted (now table) ⌝ }
-    ensures { λ r. ⌜ r ≡ components (hypermapOf (now (table .entry))) ⌝ }
-{
-    let n = words::capacity_of(table);
-    let mut marks = [0u16; 4096];
-    mark_components(table, &mut marks[..n])
-}
-
 // LIFTS: the components of at least two darts
 
-// The darts that are a component by themselves.
-pub fn count_alone(table: &[u16]) -> u32
-    requires { ⌜ Counted (now table) ⌝ }
-    ensures { λ r. ⌜ r ≡ length (aloneDarts (hypermapOf (now (table .entry)))) ⌝ }
-{
-    let n = words::capacity_of(table);
-    let mut count: u32 = 0;
-    let mut x: u16 = 1;
-    while words::wide(x) <= n {
-        if command::is_alone(table, x) {
-            count += 1;
-        }
-        x += 1;
-    }
-    count
-}
-
-pub fn count_lifts(table: &[u16], components: u32) -> u32
-    requires { ⌜ CountedParts (now table) components ⌝ }
-    ensures { λ r. ⌜ r ≡ lifts (hypermapOf (now (table .entry))) ⌝ }
-{
-    components - count_alone(table)
-}
-
-// Of the component of x.
+// Of the component of x: one, unless the dart is alone.
 pub fn component_lifts(table: &[u16], x: u16) -> u32
     requires { ⌜ CountedAt (now table) x ⌝ }
     ensures { λ r. ⌜ r ≡ lifts (componentAt (hypermapOf (now (table .entry))) x) ⌝ }
@@ -134,21 +102,20 @@ pub fn genus_of(components: u32, characteristic: i32) -> u32
 
 // REPORTS
 
-// Of the darts that are marked with value; how many components and lifts they have is told.
+// Of the darts that are marked with 1; what their floods have found is told.
 pub fn marked_counts(
     table: &[u16],
     marks: &mut [u16],
-    value: u16,
     components: u32,
     lifts: u32,
+    faces: u32,
 ) -> Counts
-    requires { ⌜ MarkedParts (now table) (now marks) value components lifts ⌝ }
-    ensures { λ r. ⌜ r ≡ countsOf (markedIn (now (table .entry)) (now (marks .entry)) value) ⌝ }
+    requires { ⌜ MarkedParts (now table) (now marks) components lifts faces ⌝ }
+    ensures { λ r. ⌜ r ≡ countsOf (markedIn (now (table .entry)) (now (marks .entry)) 1) ⌝ }
 {
-    let darts = count_marked(table, marks, value);
-    let edges = count_orbits(table, Orbit::Edge, marks, value);
-    let vertices = count_orbits(table, Orbit::Vertex, marks, value + 1);
-    let faces = count_orbits(table, Orbit::Face, marks, value + 2);
+    let darts = count_marked(table, marks, 1);
+    let vertices = count_orbits(table, Orbit::Vertex, marks, 1);
+    let edges = count_edges(table, marks, 2);
     let characteristic = characteristic_of(darts, edges, vertices, faces);
     let genus = genus_of(components, characteristic);
     Counts {
@@ -163,16 +130,48 @@ pub fn marked_counts(
     }
 }
 
+// Writes 1 at each dart, flooding one component after another.
+pub fn flood_all(table: &[u16], marks: &mut [u16]) -> Flooded
+    requires { ⌜ Counted (now table) × (now marks ≡ replicate 4096 0) ⌝ }
+    ensures { λ r. ⌜ r ≡ floodedOf (hypermapOf (now (table .entry))) ⌝ }
+    ensures marks { λ _. ⌜ Painted (hypermapOf (now (table .entry)) .darts) 1
+        (now (marks .entry)) (now (marks .exit)) ⌝ }
+{
+    let mut queue = [0u16; 4096];
+    let n = words::capacity_of(table);
+    let mut components: u32 = 0;
+    let mut lifts: u32 = 0;
+    let mut faces: u32 = 0;
+    let mut x: u16 = 1;
+    while words::wide(x) <= n {
+        if is_fresh(table, marks, x) {
+            faces += flood(table, x, 1, marks, &mut queue);
+            lifts += component_lifts(table, x);
+            components += 1;
+        }
+        x += 1;
+    }
+    Flooded {
+        components: components,
+        lifts: lifts,
+        faces: faces,
+    }
+}
+
 // Of all darts.
 pub fn counts(table: &[u16]) -> Counts
     requires { ⌜ Counted (now table) ⌝ }
     ensures { λ r. ⌜ r ≡ countsOf (hypermapOf (now (table .entry))) ⌝ }
 {
-    let components = count_components(table);
-    let lifts = count_lifts(table, components);
     let mut marks = [0u16; 4096];
-    mark_darts(table, &mut marks);
-    marked_counts(table, &mut marks, 1, components, lifts)
+    let found = flood_all(table, &mut marks);
+    marked_counts(
+        table,
+        &mut marks,
+        found.components,
+        found.lifts,
+        found.faces,
+    )
 }
 
 // Of the component of x, which alone is flooded.
@@ -183,6 +182,6 @@ pub fn component_counts(table: &[u16], x: u16) -> Counts
     let lifts = component_lifts(table, x);
     let mut marks = [0u16; 4096];
     let mut queue = [0u16; 4096];
-    flood(table, x, &mut marks, &mut queue);
-    marked_counts(table, &mut marks, x, 1, lifts)
+    let faces = flood(table, x, 1, &mut marks, &mut queue);
+    marked_counts(table, &mut marks, 1, lifts, faces)
 }

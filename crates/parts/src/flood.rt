@@ -1,70 +1,64 @@
-// Components, each flooded from its smallest dart over both successors. The queue of a flood is never emptied: the
-// darts before its head have both successors marked, and those from there on are waiting.
+// Components, each flooded face by face. With a face the edge predecessors of its darts come into the queue, which is
+// never emptied: the darts before its head lie in marked faces. What is closed under the steps of faces and under edge
+// predecessors is closed under all successors, so a flood ends with its component; on its way it counts the faces.
 ghost use mathlib.Core.Path.{_≡_};
-ghost use Rattle.hypermap.specs.Hypermap.{componentOf, components, sameComponent};
+ghost use Rattle.hypermap.specs.Hypermap.{componentOf, componentAt, components, faces, sameComponent};
 ghost use Rattle.table.specs.Layout.{hypermapOf};
 ghost use Rattle.parts.specs.Marks.{componentMarks};
 ghost use Rattle.parts.specs.Inner.{CountedAtBoth, Marking, Painted};
-ghost use Rattle.parts.specs.Floods.{front, visited, expanded, Visiting, Expanding, Dry};
+ghost use Rattle.parts.specs.Floods.{front, Entering, Entered, Dry};
 use crate::marks::clear;
 use crate::marks::is_fresh;
 use crate::marks::mark_of;
 use crate::marks::set_mark;
-use table::Dimension;
-use table::walk;
 use table::words;
 
-// Marks y with x and puts it into the queue, if it has no mark.
-pub fn visit(marks: &mut [u16], queue: &mut [u16], tail: usize, x: u16, y: u16) -> usize
-    requires { ⌜ Visiting y (front (now marks) (now queue) tail) ⌝ }
-    ensures { λ r. ⌜ front (now (marks .exit)) (now (queue .exit)) r ≡
-        visited x y (front (now (marks .entry)) (now (queue .entry)) tail) ⌝ }
-{
-    if mark_of(marks, y) == 0 {
-        set_mark(marks, y, x);
-        queue[tail] = y;
-        tail + 1
-    } else {
-        tail
-    }
-}
-
-// Visits both successors of y.
-pub fn expand(
+// Writes value at each dart of the face of y, and its edge predecessor into the queue.
+pub fn enter(
     table: &[u16],
+    y: u16,
+    value: u16,
     marks: &mut [u16],
     queue: &mut [u16],
     tail: usize,
-    x: u16,
-    y: u16,
 ) -> usize
-    requires { ⌜ Expanding (now table) x y (front (now marks) (now queue) tail) ⌝ }
-    ensures { λ r. ⌜ front (now (marks .exit)) (now (queue .exit)) r ≡
-        expanded (now (table .entry)) x y (front (now (marks .entry)) (now (queue .entry)) tail) ⌝ }
+    requires { ⌜ Entering (now table) y value (front (now marks) (now queue) tail) ⌝ }
+    ensures { λ r. ⌜ Entered (now (table .entry)) y value (front (now (marks .entry)) (now (queue .entry)) tail)
+        (front (now (marks .exit)) (now (queue .exit)) r) ⌝ }
 {
-    let next = visit(marks, queue, tail, x, walk::next(table, Dimension::Edge, y));
-    visit(
-        marks,
-        queue,
-        next,
-        x,
-        walk::next(table, Dimension::Vertex, y),
-    )
+    let mut at = y;
+    let mut end = tail;
+    loop {
+        set_mark(marks, at, value);
+        let back = words::word(table, at, 1);
+        queue[end] = back;
+        end += 1;
+        at = words::word(table, back, 3);
+        if at == y {
+            return end;
+        }
+    }
 }
 
-// Writes x at each dart of its component.
-pub fn flood(table: &[u16], x: u16, marks: &mut [u16], queue: &mut [u16])
-    requires { ⌜ Dry (now table) x (now marks) (now queue) ⌝ }
-    ensures { λ _. ⌜ Painted (componentOf (hypermapOf (now (table .entry))) x) x
+// Writes value at each dart of the component of x; the number of its faces.
+pub fn flood(table: &[u16], x: u16, value: u16, marks: &mut [u16], queue: &mut [u16]) -> u32
+    requires { ⌜ Dry (now table) x value (now marks) (now queue) ⌝ }
+    ensures { λ r. ⌜ r ≡ faces (componentAt (hypermapOf (now (table .entry))) x) ⌝ }
+    ensures marks { λ _. ⌜ Painted (componentOf (hypermapOf (now (table .entry))) x) value
         (now (marks .entry)) (now (marks .exit)) ⌝ }
 {
-    let mut tail = visit(marks, queue, 0, x, x);
+    let mut tail = enter(table, x, value, marks, queue, 0);
+    let mut count: u32 = 1;
     let mut head = 0;
     while head < tail {
         let y = queue[head];
-        tail = expand(table, marks, queue, tail, x, y);
+        if mark_of(marks, y) == 0 {
+            tail = enter(table, y, value, marks, queue, tail);
+            count += 1;
+        }
         head += 1;
     }
+    count
 }
 
 // The number of components, with the marks of all darts.
@@ -80,7 +74,7 @@ pub fn mark_components(table: &[u16], marks: &mut [u16]) -> u32
     let mut x: u16 = 1;
     while words::wide(x) <= n {
         if is_fresh(table, marks, x) {
-            flood(table, x, marks, &mut queue);
+            flood(table, x, x, marks, &mut queue);
             count += 1;
         }
         x += 1;
@@ -95,6 +89,6 @@ pub fn same_component(table: &[u16], a: u16, b: u16) -> bool
 {
     let mut marks = [0u16; 4096];
     let mut queue = [0u16; 4096];
-    flood(table, a, &mut marks, &mut queue);
-    mark_of(&marks, b) == a
+    flood(table, a, 1, &mut marks, &mut queue);
+    mark_of(&marks, b) == 1
 }

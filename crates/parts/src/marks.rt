@@ -7,7 +7,7 @@ ghost use Rattle.hypermap.specs.Hypermap.{orbitOf, orbits};
 ghost use Rattle.table.specs.Layout.{hypermapOf};
 ghost use Rattle.table.specs.Inner.{InTable, kindOf};
 ghost use Rattle.parts.specs.Marks.{orbitMarks};
-ghost use Rattle.parts.specs.Inner.{HasMarks, Marking, MarkingAt, HasMark, markAt, isFresh, Painted};
+ghost use Rattle.parts.specs.Inner.{Marking, MarkingAt, HasMark, markAt, isFresh, Painted};
 use table::Orbit;
 use table::walk;
 use table::words;
@@ -45,21 +45,6 @@ pub fn is_fresh(table: &[u16], marks: &[u16], x: u16) -> bool
     ensures { λ r. ⌜ r ≡ isFresh (now (table .entry)) (now (marks .entry)) x ⌝ }
 {
     (0 < words::word(table, x, 0)) & (mark_of(marks, x) == 0)
-}
-
-// Writes 1 at each dart.
-pub fn mark_darts(table: &[u16], marks: &mut [u16])
-    requires { ⌜ HasMarks (now table) (now marks) ⌝ }
-    ensures { λ _. ⌜ Painted (hypermapOf (now (table .entry)) .darts) 1 (now (marks .entry)) (now (marks .exit)) ⌝ }
-{
-    let n = words::capacity_of(table);
-    let mut x: u16 = 1;
-    while words::wide(x) <= n {
-        if 0 < words::word(table, x, 0) {
-            set_mark(marks, x, 1);
-        }
-        x += 1;
-    }
 }
 
 // Writes value at each dart of the orbit of x.

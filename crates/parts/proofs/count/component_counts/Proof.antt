@@ -1,10 +1,10 @@
 use mathlib.Core.Path.{_≡_, ap, sym, _∙_}
 use native.Mathlib.Omega.{arith}
 use borrow.Author.Needs.{needs}
-use Rattle.hypermap.specs.Hypermap.{components, componentAt}
+use Rattle.hypermap.specs.Hypermap.{faces, components, componentAt}
 use Rattle.hypermap.proofs.Laws.ComponentGenus.{isConnected}
 use Rattle.table.specs.Layout.{hypermapOf}
-use Rattle.table.proofs.Soundness.{low, high, memPresent, soundHypermap}
+use Rattle.table.proofs.Soundness.{memPresent, soundHypermap}
 use Rattle.parts.specs.Counts.{lifts, countsOf}
 use Rattle.parts.specs.Inner.{MarkedSet, markedIn}
 use Rattle.parts.proofs.Flooding.{dryZeros}
@@ -17,17 +17,17 @@ module _ (f : tie.After-flood) where
   abbrev s : tie.Start
   s = f .before .before .before .before .before
 
-  set : MarkedSet (s .args .table .now) (f .flood .last .1 .1 .0) (s .args .x)
+  set : MarkedSet (s .args .table .now) (f .flood .last .1 .1 .1 .0) 1
   set =
-      componentSet _ (s .pre .at .sound) (s .pre .room) 4096 (s .pre .room) _ (f .flood .kept .1 .1 .0) _
-      (s .pre .at .here) (f .flood .ensures)
+      componentSet _ (s .pre .at .sound) (s .pre .room) 4096 (s .pre .room) _ (f .flood .kept .1 .1 .1 .0) _
+      (s .pre .at .here) (f .flood .ensures .1)
 
   is :
-      markedIn (s .args .table .now) (f .flood .last .1 .1 .0) (s .args .x) ≡
+      markedIn (s .args .table .now) (f .flood .last .1 .1 .1 .0) 1 ≡
       componentAt (hypermapOf (s .args .table .now)) (s .args .x)
   is =
-      componentIs _ (s .pre .at .sound) (s .pre .room) 4096 (s .pre .room) _ (f .flood .kept .1 .1 .0) _
-      (s .pre .at .here) (f .flood .ensures)
+      componentIs _ (s .pre .at .sound) (s .pre .room) 4096 (s .pre .room) _ (f .flood .kept .1 .1 .1 .0) _
+      (s .pre .at .here) (f .flood .ensures .1)
 
   one : components (componentAt (hypermapOf (s .args .table .now)) (s .args .x)) ≡ 1
   one =
@@ -36,18 +36,17 @@ module _ (f : tie.After-flood) where
 
 flood-requires : tie.Need-flood-requires
 flood-requires c κs =
-    let p = c .before .before .before .before .pre in dryZeros _ _ (p .at) 4096 (p .room)
+    let p = c .before .before .before .before .pre in
+    dryZeros _ _ _ (p .at) (omega arith) 4096 (p .room) (p .room)
 
 marked-counts-requires : tie.Need-marked-counts-requires
 marked-counts-requires c κs =
     let f = c .before .before .before in
-    let p = s f .pre in
     record {
       set = set f;
-      low = low _ _ (p .at .here);
-      high = omega (arith, high _ _ (p .at .here), p .room);
       isComponents = sym (ap components (is f) ∙ one f);
       isLifts = f .before .before .before .component-lifts .ensures ∙ ap lifts (sym (is f));
+      isFaces = f .flood .ensures .0 ∙ ap faces (sym (is f));
     }
 
 returns : tie.Need-returns

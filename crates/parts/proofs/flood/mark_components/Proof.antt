@@ -6,6 +6,7 @@ use lib.ListN.{length, replicate}
 use borrow.Author.Needs.{needs}
 use Rattle.hypermap.specs.Hypermap.{componentOf}
 use Rattle.table.specs.Layout.{hypermapOf}
+use Rattle.table.proofs.Soundness.{low}
 use Rattle.parts.proofs.Marking.{Passed, passedMark, freshMarking, freshPart, passedOther}
 use Rattle.parts.proofs.LeastMarks.{leastSweep, leastPass, leastNone, leastOn, leastAll}
 use Rattle.parts.proofs.Flooding.{componentParts}
@@ -45,8 +46,11 @@ flood-requires c κs =
     let s = start l .pre in
     let q = leastPass _ _ (componentParts _ (s .sound)) in
     let e = sym (f .is-fresh .ensures) ∙ c .before .before .if2 .taken in
+    let m = freshMarking _ _ q _ _ _ (l .loop .inv .0) (omega arith) e (s .sound) in
     record {
-      marking = freshMarking _ _ q _ _ _ (l .loop .inv .0) (omega arith) e (s .sound);
+      low = low _ _ (m .at .here);
+      few = s .room;
+      marking = m;
       room = omega arith;
       dry = freshPart _ _ q _ _ _ (l .loop .inv .0) (omega arith) e;
     }
@@ -60,8 +64,8 @@ loop-again c =
     let e = sym (c .before .is-fresh .ensures) in
     ⊎-elim
     (λ k. rw (k .7, k .8, k .9) (
-      leastOn _ _ r _ _ _ (i .0) (omega arith) (e ∙ k .0 .taken) _ (k .3 .kept .1 .1 .0) (k .3 .ensures),
-      k .3 .kept .1 .1 .1 .0 ∙ i .1,
+      leastOn _ _ r _ _ _ (i .0) (omega arith) (e ∙ k .0 .taken) _ (k .3 .kept .1 .1 .1 .0) (k .3 .ensures .1),
+      k .3 .kept .1 .1 .1 .1 .0 ∙ i .1,
     ))
     (λ k. rw (k .1, k .2, k .3) (passedOther _ _ q _ _ _ (i .0) (omega arith) (e ∙ k .0 .left), i .1))
     (c .if2 .came)

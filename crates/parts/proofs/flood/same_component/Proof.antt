@@ -8,22 +8,22 @@ use Rattle.parts.proofs.flood.same_component.Tie as tie
 flood-requires : tie.Need-flood-requires
 flood-requires c κs =
     let p = c .before .before .before .pre in
-    dryZeros _ _ (record { sound = p .both .sound; here = p .both .first }) 4096 (p .room)
+    dryZeros _ _ _ (record { sound = p .both .sound; here = p .both .first }) (omega arith) 4096 (p .room) (p .room)
 
 mark-of-requires : tie.Need-mark-of-requires
 mark-of-requires c κs =
     let f = c .before .before .before in
     let p = f .before .before .before .before .pre in
     let b = p .both .second in
-    record { low = low _ _ b; high = omega (arith, high _ _ b, f .flood .kept .1 .1 .0) }
+    record { low = low _ _ b; high = omega (arith, high _ _ b, f .flood .kept .1 .1 .1 .0) }
 
 returns : tie.Need-returns
 returns c =
     let f = c .before .before .before .before in
     let p = f .before .before .before .before .pre in
     rw (c .mark-of .ensures)
-    (floodedTest _ _ (record { sound = p .both .sound; here = p .both .first }) 4096 (p .room) _ _ (p .both .second)
-    (f .flood .ensures))
+    (floodedTest _ _ _ (record { sound = p .both .sound; here = p .both .first }) (omega arith) 4096 (p .room) (p .room)
+    _ _ (p .both .second) (f .flood .ensures .1))
 
 pub same-component-spec : {M : Type 1} → statement M
 same-component-spec =
