@@ -2,9 +2,10 @@
 //! and every lent word is compared afterwards. A difference ends the program with both sides.
 
 use crate::binding::{self, Answer, Run, Totals};
+use crate::commands::{Command, Dimension, Tab, MAX_TAPE};
 use crate::guarded::Guarded;
 use crate::needs;
-use crate::second::{self, Command, Dimension, Part, Plan, Tab};
+use crate::second::{self, Part, Plan};
 use std::fmt::Debug;
 
 /// What was met: how often each refusal, 0 for what was accepted; rings that were cut, and rounds; plans with handles,
@@ -246,7 +247,7 @@ impl Lent {
         let lent = Guarded::new(tape);
         let run = binding::play(&mut self.words, &lent);
         let expected = match &mut self.plan {
-            _ if tape.len() > second::MAX_TAPE => Run { number: 1, accepted: 0 },
+            _ if tape.len() > MAX_TAPE => Run { number: 1, accepted: 0 },
             Ok(plan) => {
                 let run = plan.play(tape);
                 Run { number: run.number, accepted: run.accepted }

@@ -1,6 +1,7 @@
 //! The kernel seen from Rust: a safe binding of its C face, and a second implementation to compare it with.
 
 pub mod binding;
+pub mod commands;
 pub mod compare;
 pub mod guarded;
 pub mod needs;
@@ -8,3 +9,4 @@ pub mod plain;
 pub mod plans;
 pub mod random;
 pub mod second;
+pub mod tapes;

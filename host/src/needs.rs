@@ -1,7 +1,8 @@
 //! The second implementation of document 02, Job 1: what a tape needs, from its definition, and what a run of it goes
 //! through.
 
-use crate::second::{read, Command, Dimension, Plan, Tab, MAX_TAPE};
+use crate::commands::{read, Command, Dimension, MAX_TAPE};
+use crate::second::Plan;
 
 /// The four numbers of a tape.
 #[derive(Clone, Copy, PartialEq, Eq, Debug)]
@@ -22,15 +23,6 @@ pub fn commands(tape: &[u8]) -> Result<Vec<Command>, u8> {
         rest = &rest[size..];
     }
     Ok(commands)
-}
-
-fn named(command: &Command) -> Vec<Tab> {
-    match command {
-        Command::Put(t) | Command::TakeOut(t) => vec![*t],
-        Command::Join(_, a, b) | Command::Cut(_, a, b) => vec![*a, *b],
-        Command::Report => vec![],
-        Command::Ring(words) => words.clone(),
-    }
 }
 
 /// Puts less take-outs.
@@ -60,7 +52,7 @@ pub fn needs(tape: &[u8]) -> Result<Needs, u8> {
         gained.push(gained[gained.len() - 1] + gain(command));
     }
     Ok(Needs {
-        capacity: commands.iter().flat_map(named).max().unwrap_or(0),
+        capacity: commands.iter().flat_map(Command::tabs).max().unwrap_or(0),
         commands: commands.len() as u32,
         peak: *gained.iter().max().unwrap() as u32,
         words: commands.iter().map(words).sum(),

@@ -1,27 +1,16 @@
 //! A second implementation of document 01, as plain as can be: a plan is two maps on a set of tabs, and every question
 //! is answered from its definition by sets. It shares no code and no data structure with the kernel.
 
+use crate::commands::{read, write, Command, Dimension, Tab, MAX_CAPACITY, MAX_TAPE};
 use std::collections::{BTreeMap, BTreeSet};
 
-/// The greatest number of tabs that a table has room for.
-pub const MAX_CAPACITY: usize = 4096;
-/// The most bytes of a tape.
-pub const MAX_TAPE: usize = 65_536;
 /// The most words of a ring's list.
 pub const MAX_RING: usize = 4096;
 /// The fewest bytes of the screen's buffer.
 pub const SCREEN_ROOM: usize = 53_278;
 
-pub type Tab = u32;
-
 /// Followers of the tabs of a plan; the tabs are the keys.
 pub type Map = BTreeMap<Tab, Tab>;
-
-#[derive(Clone, Copy, PartialEq, Eq, Debug)]
-pub enum Dimension {
-    Tie,
-    Cell,
-}
 
 #[derive(Clone, Copy, PartialEq, Eq, Debug)]
 pub enum Part {
@@ -29,16 +18,6 @@ pub enum Part {
     Cell,
     Gap,
     Piece,
-}
-
-#[derive(Clone, PartialEq, Eq, Debug)]
-pub enum Command {
-    Put(Tab),
-    TakeOut(Tab),
-    Join(Dimension, Tab, Tab),
-    Cut(Dimension, Tab, Tab),
-    Report,
-    Ring(Vec<Tab>),
 }
 
 /// A plan on a table with room for tabs 1 to `capacity`.
@@ -372,52 +351,6 @@ impl Plan {
         }
         commands.iter().flat_map(write).collect()
     }
-}
-
-/// The first command of a tape and its bytes, or refusal 15 or 16.
-pub fn read(tape: &[u8]) -> Result<(Command, usize), u8> {
-    let number = |i: usize| -> Result<Tab, u8> {
-        match tape.get(i..i + 2) {
-            Some(pair) => Ok(Tab::from(u16::from_le_bytes([pair[0], pair[1]]))),
-            None => Err(16),
-        }
-    };
-    let pair = || -> Result<(Tab, Tab), u8> { Ok((number(1)?, number(3)?)) };
-    match tape.first() {
-        Some(1) => Ok((Command::Put(number(1)?), 3)),
-        Some(2) => Ok((Command::TakeOut(number(1)?), 3)),
-        Some(3) => pair().map(|(a, b)| (Command::Join(Dimension::Tie, a, b), 5)),
-        Some(4) => pair().map(|(a, b)| (Command::Cut(Dimension::Tie, a, b), 5)),
-        Some(5) => pair().map(|(a, b)| (Command::Join(Dimension::Cell, a, b), 5)),
-        Some(6) => pair().map(|(a, b)| (Command::Cut(Dimension::Cell, a, b), 5)),
-        Some(7) => Ok((Command::Report, 1)),
-        Some(8) => {
-            let count = usize::from(*tape.get(1).ok_or(16)?);
-            let words: Result<Vec<Tab>, u8> = (0..2 * count).map(|k| number(2 + 2 * k)).collect();
-            Ok((Command::Ring(words?), 2 + 4 * count))
-        }
-        _ => Err(15),
-    }
-}
-
-/// The bytes of a command; a ring has at most 255 crossings.
-pub fn write(command: &Command) -> Vec<u8> {
-    let (code, tabs): (u8, Vec<Tab>) = match command {
-        Command::Put(t) => (1, vec![*t]),
-        Command::TakeOut(t) => (2, vec![*t]),
-        Command::Join(Dimension::Tie, a, b) => (3, vec![*a, *b]),
-        Command::Cut(Dimension::Tie, a, b) => (4, vec![*a, *b]),
-        Command::Join(Dimension::Cell, a, b) => (5, vec![*a, *b]),
-        Command::Cut(Dimension::Cell, a, b) => (6, vec![*a, *b]),
-        Command::Report => (7, vec![]),
-        Command::Ring(words) => (8, words.clone()),
-    };
-    let mut bytes = vec![code];
-    if let Command::Ring(words) = command {
-        bytes.push((words.len() / 2) as u8);
-    }
-    bytes.extend(tabs.iter().flat_map(|&t| (t as u16).to_le_bytes()));
-    bytes
 }
 
 /// What the screen's call returns, and its buffer afterwards.

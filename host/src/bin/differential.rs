@@ -6,10 +6,11 @@
 //! It ends with how often each refusal was met, and fails where one was never met.
 
 use lotskadi_host::binding::Totals;
+use lotskadi_host::commands::{Command, Dimension, Tab, MAX_CAPACITY, MAX_TAPE};
 use lotskadi_host::compare::{screen, tape_needs, Lent, Met};
-use lotskadi_host::plans;
 use lotskadi_host::random::Random;
-use lotskadi_host::second::{self, Command, Dimension, Part, Plan, Tab};
+use lotskadi_host::second::{Part, Plan, SCREEN_ROOM};
+use lotskadi_host::{plans, tapes};
 use std::time::{Duration, Instant};
 
 const PARTS: [Part; 4] = [Part::Tie, Part::Cell, Part::Gap, Part::Piece];
@@ -98,47 +99,10 @@ fn damaged_table(random: &mut Random, met: &mut Met) {
     questions(random, met, &lent);
 }
 
-/// Commands that were accepted on the way, with one now and then that was not.
-fn tape(random: &mut Random, capacity: usize) -> Vec<u8> {
-    let mut plan = Plan::empty(capacity);
-    let mut bytes = vec![];
-    for _ in 0..random.below(60) {
-        let command = match random.below(6) {
-            0 => Command::Report,
-            1 | 2 => Command::Put(1 + random.below(capacity.max(1)) as Tab),
-            _ => plans::command(random, &plan),
-        };
-        let tabs_fit = |tabs: &[Tab]| tabs.iter().all(|&t| t <= 65_535);
-        let fits = match &command {
-            Command::Ring(words) => words.len() % 2 == 0 && words.len() <= 510 && tabs_fit(words),
-            Command::Put(t) | Command::TakeOut(t) => tabs_fit(&[*t]),
-            Command::Join(_, a, b) | Command::Cut(_, a, b) => tabs_fit(&[*a, *b]),
-            Command::Report => true,
-        };
-        if fits && (plan.apply(&command) == 0 || random.once_in(40)) {
-            bytes.extend(second::write(&command));
-        }
-    }
-    bytes
-}
-
-fn damage(random: &mut Random, tape: &mut Vec<u8>) {
-    match random.below(6) {
-        0 => tape.truncate(random.below(tape.len() + 1)),
-        1 => tape.push(*random.one_of(&[0, 1, 3, 8, 9, 255])),
-        2 if !tape.is_empty() => {
-            let at = random.below(tape.len());
-            tape[at] = random.next() as u8;
-        }
-        3 => tape.extend([8, 0]),
-        _ => {}
-    }
-}
-
 fn tapes(random: &mut Random, met: &mut Met) {
     let capacity = *random.one_of(&[0, 1, 3, 8, 20]);
-    let mut bytes = tape(random, capacity);
-    damage(random, &mut bytes);
+    let mut bytes = tapes::random(random, capacity);
+    tapes::damage(random, &mut bytes);
     let mut lent = Lent::of(&Plan::empty(capacity));
     lent.play(met, &bytes);
     tape_needs(met, &bytes, capacity);
@@ -150,8 +114,8 @@ fn tapes(random: &mut Random, met: &mut Met) {
     assert_eq!(&again.words[..], &lent.words[..], "a canonical tape builds its table");
     if random.once_in(4) {
         let room = match random.below(3) {
-            0 => around(random, second::SCREEN_ROOM),
-            _ => second::SCREEN_ROOM,
+            0 => around(random, SCREEN_ROOM),
+            _ => SCREEN_ROOM,
         };
         screen(met, &bytes, room);
     }
@@ -164,7 +128,7 @@ fn rings(random: &mut Random, met: &mut Met) {
         1 => (20, 20),
         _ => (2 + random.below(9), 2 + random.below(9)),
     };
-    let grid = plans::Grid::new(width, height, second::MAX_CAPACITY);
+    let grid = plans::Grid::new(width, height, MAX_CAPACITY);
     let (left, top) = (random.below(width), random.below(height));
     let (right, bottom) = (left + random.below(width - left), top + random.below(height - top));
     // a path that meets two opposite sides would pass the gap outside twice
@@ -184,10 +148,10 @@ fn rings(random: &mut Random, met: &mut Met) {
 /// A ring in a flat piece beside others, with handles or not: it parts in two flat pieces, and every other piece keeps
 /// its report.
 fn ring_beside(random: &mut Random, met: &mut Met) {
-    let grid = plans::Grid::new(2 + random.below(4), 2 + random.below(4), second::MAX_CAPACITY).plan;
+    let grid = plans::Grid::new(2 + random.below(4), 2 + random.below(4), MAX_CAPACITY).plan;
     let Some(ring) = plans::ring(random, &grid, 40) else { return };
     let others = plans::random(random, 30);
-    let plan = plans::beside(&grid, &others, second::MAX_CAPACITY);
+    let plan = plans::beside(&grid, &others, MAX_CAPACITY);
     let mut lent = Lent::of(&plan);
     assert_eq!(lent.component_report(met, ring[0]).handles, 0, "a grid is flat");
     let reports = |lent: &Lent, met: &mut Met| -> Vec<Totals> {
@@ -206,7 +170,7 @@ fn ring_beside(random: &mut Random, met: &mut Met) {
 
 /// What is as large as it may be, and one more.
 fn full(random: &mut Random, met: &mut Met) {
-    let capacity = second::MAX_CAPACITY;
+    let capacity = MAX_CAPACITY;
     let plan = match random.below(4) {
         0 => plans::random(random, capacity),
         1 => plans::Grid::new(32, 33, capacity).plan,
@@ -233,11 +197,11 @@ fn full(random: &mut Random, met: &mut Met) {
         lent.command(met, &command);
     }
     Lent::new(&vec![0; 16_388]).report(met);
-    Lent::of(&Plan::empty(4)).play(met, &vec![7; second::MAX_TAPE + random.below(2)]);
-    screen(met, &vec![7; second::MAX_TAPE + 1], second::SCREEN_ROOM);
-    screen(met, &plan.tape(), second::SCREEN_ROOM);
+    Lent::of(&Plan::empty(4)).play(met, &vec![7; MAX_TAPE + random.below(2)]);
+    screen(met, &vec![7; MAX_TAPE + 1], SCREEN_ROOM);
+    screen(met, &plan.tape(), SCREEN_ROOM);
     // a whole tape of empty rings, and one byte more
-    let empty_rings: Vec<u8> = [8, 0].repeat(second::MAX_TAPE / 2 + random.below(2));
+    let empty_rings: Vec<u8> = [8, 0].repeat(MAX_TAPE / 2 + random.below(2));
     tape_needs(met, &empty_rings, 0);
 }
 
@@ -276,6 +240,6 @@ fn main() {
     }
     let all_met = met.refusals.iter().all(|&times| times > 0);
     let plans_met = [met.rings, met.with_handles, met.partly_lifted, met.rings_beside_handles, met.foretold];
-    let longest_met = met.longest_round == second::MAX_CAPACITY;
+    let longest_met = met.longest_round == MAX_CAPACITY;
     assert!(all_met && plans_met.iter().all(|&times| times > 0) && longest_met, "something was never met");
 }
