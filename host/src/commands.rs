@@ -11,7 +11,7 @@ pub const MAX_CROSSINGS: usize = 255;
 
 pub type Tab = u32;
 
-#[derive(Clone, Copy, PartialEq, Eq, Debug)]
+#[derive(Clone, Copy, PartialEq, Eq, PartialOrd, Ord, Debug)]
 pub enum Dimension {
     Tie,
     Cell,
