@@ -21,7 +21,7 @@ fn hue(piece: &Piece) -> String {
     format!("{:.3}", (f64::from(piece.least) * 0.618_033_988_749_895).fract())
 }
 
-/// How many columns the pieces stand in, so that many small ones fill a page.
+/// How many columns the pieces stand in; side by side, many small ones would make a drawing of one long row.
 fn columns(pieces: usize) -> usize {
     ((2 * pieces) as f64).sqrt().ceil() as usize
 }
@@ -76,7 +76,7 @@ impl Drawing<'_> {
     }
 
     /// Lines that are not seen, from each piece to the one below it in its column.
-    fn columns(&self) -> Vec<String> {
+    fn stacked(&self) -> Vec<String> {
         let pieces = &self.nodes.pieces;
         let below = pieces.iter().skip(columns(pieces.len()));
         let line = |(upper, lower): (&Piece, &Piece)| {
@@ -98,7 +98,7 @@ fn indented(lines: impl IntoIterator<Item = String>, by: usize) -> String {
 pub fn plan(table: &[u16]) -> String {
     let drawing = Drawing { nodes: Nodes::new(table), prefix: "", dashed: &[] };
     let pieces = drawing.nodes.pieces.iter().flat_map(|piece| drawing.piece(piece));
-    let body = indented(pieces.chain(drawing.columns()), 4);
+    let body = indented(pieces.chain(drawing.stacked()), 4);
     format!("{HEAD}    label=\"\\n{}\"\n{body}}}\n", report(table))
 }
 
@@ -107,7 +107,7 @@ fn cluster(name: &str, table: &[u16], dashed: &[Tab]) -> String {
     let prefix = format!("{name}_");
     let drawing = Drawing { nodes: Nodes::new(table), prefix: &prefix, dashed };
     let pieces = drawing.nodes.pieces.iter().rev().flat_map(|piece| drawing.piece(piece));
-    let body = indented(pieces.chain(drawing.columns()), 8);
+    let body = indented(pieces.chain(drawing.stacked()), 8);
     let head = format!("subgraph cluster_{name} {{\n        label=\"{name} the ring\"\n        color=gray60\n");
     format!("    {head}{body}    }}\n")
 }

@@ -1,4 +1,5 @@
-//! The kernel seen from Rust: a safe binding of its C face, and a second implementation to compare it with.
+//! The kernel seen from Rust: a safe binding of its C face, a second implementation to compare it with, and what the
+//! command `tape` is made of.
 
 pub mod binding;
 pub mod commands;

@@ -25,8 +25,8 @@ pub fn row(tabs: &[Tab]) -> String {
 
 /// The eight numbers of a report.
 pub fn report(totals: &Totals) -> String {
-    let counts = |counts: &[(u32, &str)]| -> String {
-        let each: Vec<String> = counts.iter().map(|&(number, thing)| counted(number as usize, thing)).collect();
+    let counts = |things: &[(u32, &str)]| -> String {
+        let each: Vec<String> = things.iter().map(|&(number, thing)| counted(number as usize, thing)).collect();
         each.join(", ")
     };
     let parts = [

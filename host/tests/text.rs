@@ -220,7 +220,7 @@ fn each_mistake_has_its_message() {
         ("put -1", "'-1' is no tab number from 0 to 65535"),
         ("put +1", "'+1' is no tab number from 0 to 65535"),
         ("put 1,", "'1,' is no tab number from 0 to 65535"),
-        ("put ０", "'０' is no tab number from 0 to 65535"),
+        ("put \u{ff10}", "'\u{ff10}' is no tab number from 0 to 65535"),
         ("put 1\rput", "'1\\rput' is no tab number from 0 to 65535"),
         ("put \u{1b}[31m", "'\\u{1b}[31m' is no tab number from 0 to 65535"),
         (&format!("put {long_word}"), &format!("'{}…' is no tab number from 0 to 65535", &long_word[1..])),

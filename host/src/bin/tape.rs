@@ -21,6 +21,8 @@ FILE missing or -: standard input. --text: the file is text, not a tape.
 Exit status: 0 done; 1 refused, or errors in the text; 2 wrong usage, or a file that cannot be read.
 ";
 
+const JOBS: [&str; 5] = ["from-text", "to-text", "explain", "needs", "draw"];
+
 /// What a call writes to standard output and to standard error, and its exit status.
 struct Outcome {
     output: Vec<u8>,
@@ -154,24 +156,23 @@ fn draw(tape: &[u8], lines: &[Line], ring: Option<usize>) -> Outcome {
     outcome
 }
 
+/// What a call with these words leads to, early or late.
 fn outcome(words: &[OsString]) -> Result<Outcome, Outcome> {
     let (job, words) = words.split_first().ok_or_else(|| Outcome::wrong_usage(""))?;
     let job = job.to_string_lossy();
     if job == "help" || job == "--help" || words.iter().any(|word| word == "--help") {
         return Ok(Outcome::done(USAGE));
     }
-    if !["from-text", "to-text", "explain", "needs", "draw"].contains(&&*job) {
+    if !JOBS.contains(&&*job) {
         return Err(Outcome::wrong_usage(&format!("tape: '{job}' is no command\n")));
     }
     let arguments = arguments(&job, words).map_err(|reason| Outcome::wrong_usage(&reason))?;
     let input = read(arguments.file)?;
-    match &*job {
-        "from-text" => return Ok(Outcome::done(tape_of_text(&input)?.0)),
-        "to-text" => return Ok(Outcome::done(text::from_tape(&input))),
-        _ => {}
-    }
-    let (tape, lines) = if arguments.is_text { tape_of_text(&input)? } else { (input, vec![]) };
+    let is_text = arguments.is_text || job == "from-text";
+    let (tape, lines) = if is_text { tape_of_text(&input)? } else { (input, vec![]) };
     Ok(match &*job {
+        "from-text" => Outcome::done(tape),
+        "to-text" => Outcome::done(text::from_tape(&tape)),
         "explain" => explain_run(&tape, &lines),
         "needs" => needs(&tape, &lines),
         _ => draw(&tape, &lines, arguments.ring),
