@@ -2,12 +2,12 @@
 
 use lotskadi_host::binding;
 use lotskadi_host::commands::{write, Command, Dimension, Tab, MAX_CAPACITY};
-use lotskadi_host::culprits::{Break, Crossing, Culprits, Twice};
+use lotskadi_host::explain::culprits::{Break, Crossing, Culprits, Twice};
 use lotskadi_host::explain::play;
-use lotskadi_host::plans::{self, Grid};
-use lotskadi_host::random::Random;
-use lotskadi_host::refusals::REFUSALS;
-use lotskadi_host::second::{Part, Plan};
+use lotskadi_host::explain::refusals::REFUSALS;
+use lotskadi_host::testing::plans::{self, Grid};
+use lotskadi_host::testing::random::Random;
+use lotskadi_host::testing::second::{Part, Plan};
 use std::collections::BTreeMap;
 
 /// Crossings of random ties, mostly of different ones.

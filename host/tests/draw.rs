@@ -1,11 +1,11 @@
 //! Drawings of random plans, read back line by line; and the square's, word by word.
 
 use lotskadi_host::commands::{Command, Tab, MAX_CAPACITY};
-use lotskadi_host::drawing;
+use lotskadi_host::draw;
 use lotskadi_host::explain::play;
-use lotskadi_host::plans::{self, Grid};
-use lotskadi_host::random::Random;
-use lotskadi_host::second::{Part, Plan};
+use lotskadi_host::testing::plans::{self, Grid};
+use lotskadi_host::testing::random::Random;
+use lotskadi_host::testing::second::{Part, Plan};
 use std::collections::{BTreeMap, BTreeSet};
 
 /// What a drawing says, for all names that start with one prefix.
@@ -124,7 +124,7 @@ fn each_tab_is_one_line_and_each_tie_and_cell_one_node() {
             _ => plans::random(&mut random, capacity),
         };
         largest = largest.max(plan.tie.len());
-        let drawn = read(&drawing::plan(&table(&plan))).remove("").unwrap_or_default();
+        let drawn = read(&draw::plan(&table(&plan))).remove("").unwrap_or_default();
         check(&drawn, &plan, "");
         assert!(drawn.dashed.is_empty());
     }
@@ -148,7 +148,7 @@ fn before_and_after_a_ring() {
     let (mut rings, mut kept) = (0, 0);
     while rings < 500 {
         let Some((before, ring, after)) = plan_with_ring(&mut random) else { continue };
-        let mut drawn = read(&drawing::ring(&table(&before), &table(&after), &ring));
+        let mut drawn = read(&draw::ring(&table(&before), &table(&after), &ring));
         let first = drawn.remove("before_").expect("the plan before");
         let second = drawn.remove("after_").expect("the plan after");
         assert!(drawn.is_empty());
@@ -173,7 +173,7 @@ fn before_and_after_a_ring() {
 fn pieces_have_colours_of_their_own() {
     let singles =
         Plan { tie: (1..=100).map(|t| (t, t)).collect(), cell: (1..=100).map(|t| (t, t)).collect(), capacity: 100 };
-    let drawn = read(&drawing::plan(&table(&singles))).remove("").expect("a drawing");
+    let drawn = read(&draw::plan(&table(&singles))).remove("").expect("a drawing");
     let colours: BTreeSet<&Vec<String>> = drawn.colours.values().collect();
     assert_eq!(colours.len(), 100);
 }
@@ -184,7 +184,7 @@ fn the_square() {
     let tape = std::fs::read(format!("{root}/examples/square.tape")).expect("the tape");
     let picture = std::fs::read_to_string(format!("{root}/docs/pictures/square.dot")).expect("the drawing");
     let (before, after) = (play(&tape[..33]), play(&tape[..43]));
-    assert_eq!(drawing::ring(&before.table, &after.table, &[1, 2, 3, 4]), picture);
+    assert_eq!(draw::ring(&before.table, &after.table, &[1, 2, 3, 4]), picture);
 }
 
 const HEAD: &str = r#"// Cells are ellipses, ties are boxes, and each tab is the line between its cell and its tie.
@@ -197,8 +197,8 @@ graph plan {
 #[test]
 fn the_empty_plan() {
     let report = "0 tabs, 0 ties, 0 cells, 0 gaps, 0 pieces, characteristic 0, 0 handles, 0 lifts";
-    assert_eq!(drawing::plan(&[]), format!("{HEAD}    label=\"\\n{report}\"\n}}\n"));
-    assert_eq!(drawing::plan(&[0; 4 * MAX_CAPACITY]), drawing::plan(&[]));
+    assert_eq!(draw::plan(&[]), format!("{HEAD}    label=\"\\n{report}\"\n}}\n"));
+    assert_eq!(draw::plan(&[0; 4 * MAX_CAPACITY]), draw::plan(&[]));
 }
 
 #[test]
@@ -238,5 +238,5 @@ fn three_single_tabs_and_a_tie() {
     cell_2 -- cell_5 [style=invis]
 }
 "#;
-    assert_eq!(drawing::plan(&played.table), format!("{HEAD}{body}"));
+    assert_eq!(draw::plan(&played.table), format!("{HEAD}{body}"));
 }

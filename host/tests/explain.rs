@@ -1,8 +1,8 @@
 //! Explanations, word by word, for every refusal that a run can meet.
 
-use lotskadi_host::culprits::Culprits;
+use lotskadi_host::explain::culprits::Culprits;
+use lotskadi_host::explain::refusals::{self, REFUSALS};
 use lotskadi_host::explain::{needs, play};
-use lotskadi_host::refusals::{self, REFUSALS};
 use lotskadi_host::text::to_tape;
 
 const SQUARE: &str = "\

@@ -1,7 +1,8 @@
 //! The command `tape`, run as a program: what it writes, its exit status, and that no input makes it panic.
 
-use lotskadi_host::random::Random;
-use lotskadi_host::{drawing, explain, tapes, text};
+use lotskadi_host::testing::random::Random;
+use lotskadi_host::testing::tapes;
+use lotskadi_host::{draw, explain, text};
 use std::io::Write;
 use std::process::{Command, Output, Stdio};
 
@@ -93,7 +94,7 @@ fn needs() {
 fn drawings() {
     let picture = std::fs::read_to_string(concat!(env!("CARGO_MANIFEST_DIR"), "/../docs/pictures/square.dot"));
     assert_eq!(answer(&["draw", "--ring", "1", SQUARE], b""), done(&picture.expect("the picture")));
-    let whole = drawing::plan(&explain::play(&square()).table);
+    let whole = draw::plan(&explain::play(&square()).table);
     assert_eq!(answer(&["draw", SQUARE], b""), done(&whole));
     assert_eq!(answer(&["draw", "--text", SQUARE_TEXT], b""), done(&whole));
     assert_eq!(
@@ -114,9 +115,9 @@ fn drawings_of_refused_runs() {
                    4 commands before it were accepted.\n";
     let (tape, _) = text::to_tape(text.as_bytes()).expect("a text");
     let (before, after) = (explain::play(&tape[..11]).table, explain::play(&tape[..17]).table);
-    let expected = (drawing::plan(&after), refused.to_string(), 1);
+    let expected = (draw::plan(&after), refused.to_string(), 1);
     assert_eq!(answer(&["draw", "--text"], text.as_bytes()), expected);
-    let expected = (drawing::ring(&before, &after, &[1, 2]), refused.to_string(), 1);
+    let expected = (draw::ring(&before, &after, &[1, 2]), refused.to_string(), 1);
     assert_eq!(answer(&["draw", "--text", "--ring", "1"], text.as_bytes()), expected);
     let no_ring = format!("tape: there is no ring 2, the tape has 1 accepted ring\n{refused}");
     assert_eq!(answer(&["draw", "--text", "--ring", "2"], text.as_bytes()), failed(&no_ring));

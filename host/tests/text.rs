@@ -1,7 +1,7 @@
 //! Tapes as text and back, on random tapes; and every mistake that a text can have.
 
-use lotskadi_host::random::Random;
-use lotskadi_host::tapes;
+use lotskadi_host::testing::random::Random;
+use lotskadi_host::testing::tapes;
 use lotskadi_host::text::{from_tape, line_of, to_tape, Line};
 
 /// Commands, accepted or not; whole, or damaged up to three times; or any bytes.

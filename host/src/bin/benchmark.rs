@@ -4,9 +4,9 @@
 //!     benchmark [--rounds N]
 
 use lotskadi_host::commands::Tab;
-use lotskadi_host::plans::{beside, Grid};
-use lotskadi_host::random::Random;
-use lotskadi_host::second::{Map, Plan};
+use lotskadi_host::testing::plans::{beside, Grid};
+use lotskadi_host::testing::random::Random;
+use lotskadi_host::testing::second::{Map, Plan};
 use lotskadi_host::{binding, plain};
 use std::hint::black_box;
 use std::time::Instant;

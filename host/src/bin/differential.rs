@@ -7,10 +7,10 @@
 
 use lotskadi_host::binding::Totals;
 use lotskadi_host::commands::{Command, Dimension, Tab, MAX_CAPACITY, MAX_TAPE};
-use lotskadi_host::compare::{screen, tape_needs, Lent, Met};
-use lotskadi_host::random::Random;
-use lotskadi_host::second::{Part, Plan, SCREEN_ROOM};
-use lotskadi_host::{plans, tapes};
+use lotskadi_host::testing::compare::{screen, tape_needs, Lent, Met};
+use lotskadi_host::testing::random::Random;
+use lotskadi_host::testing::second::{Part, Plan, SCREEN_ROOM};
+use lotskadi_host::testing::{plans, tapes};
 use std::time::{Duration, Instant};
 
 const PARTS: [Part; 4] = [Part::Tie, Part::Cell, Part::Gap, Part::Piece];

@@ -1,8 +1,8 @@
 //! Document 01's plans to check that are not marked, played by the kernel and by the second implementation.
 
 use lotskadi_host::commands::{Command, Dimension, Tab};
-use lotskadi_host::compare::{Lent, Met};
-use lotskadi_host::second::{Part, Plan};
+use lotskadi_host::testing::compare::{Lent, Met};
+use lotskadi_host::testing::second::{Part, Plan};
 
 use Command::{Cut, Join, Put, Ring};
 use Dimension::{Cell, Tie};

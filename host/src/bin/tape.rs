@@ -3,7 +3,7 @@
 use lotskadi_host::commands::{self, Command, Placed};
 use lotskadi_host::text::{self, Line};
 use lotskadi_host::words::counted;
-use lotskadi_host::{drawing, explain};
+use lotskadi_host::{draw, explain};
 use std::ffi::{OsStr, OsString};
 use std::io::{self, Read, Write};
 use std::process::ExitCode;
@@ -134,7 +134,7 @@ fn draw_ring(tape: &[u8], accepted: usize, number: usize) -> Outcome {
     match rings.get(number - 1) {
         Some(Placed { command, bytes }) => {
             let (before, after) = (explain::play(&tape[..bytes.start]), explain::play(&tape[..bytes.end]));
-            Outcome::done(drawing::ring(&before.table, &after.table, &command.tabs()))
+            Outcome::done(draw::ring(&before.table, &after.table, &command.tabs()))
         }
         None => {
             let there = counted(rings.len(), "accepted ring");
@@ -146,7 +146,7 @@ fn draw_ring(tape: &[u8], accepted: usize, number: usize) -> Outcome {
 fn draw(tape: &[u8], lines: &[Line], ring: Option<usize>) -> Outcome {
     let played = explain::play(tape);
     let mut outcome = match ring {
-        None => Outcome::done(drawing::plan(&played.table)),
+        None => Outcome::done(draw::plan(&played.table)),
         Some(number) => draw_ring(tape, played.accepted, number),
     };
     if played.refused.is_some() {

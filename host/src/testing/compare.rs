@@ -3,9 +3,9 @@
 
 use crate::binding::{self, Answer, Run, Totals};
 use crate::commands::{Command, Dimension, Tab, MAX_TAPE};
-use crate::guarded::Guarded;
-use crate::needs;
-use crate::second::{self, Part, Plan};
+use crate::testing::guarded::Guarded;
+use crate::testing::needs;
+use crate::testing::second::{self, Part, Plan};
 use std::fmt::Debug;
 
 /// What was met: how often each refusal, 0 for what was accepted; rings that were cut, and rounds; plans with handles,

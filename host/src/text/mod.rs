@@ -1,8 +1,10 @@
 //! Tapes as text, a command a line: its name and its tabs, as in `tie join 1 2`. A line `bytes 08 02` holds what is no
 //! whole command, and `#` starts a comment.
 
+pub mod mistakes;
+
+use self::mistakes::{Mistake, Wrong};
 use crate::commands::{self, Command, Tab, MAX_CROSSINGS};
-use crate::mistakes::{Mistake, Wrong};
 use std::fmt::{self, Display, Formatter};
 
 /// The names of the commands, by their bytes from 1 on.

@@ -2,7 +2,7 @@
 //! through.
 
 use crate::commands::{read, Command, Dimension, MAX_TAPE};
-use crate::second::Plan;
+use crate::testing::second::Plan;
 
 /// The four numbers of a tape.
 #[derive(Clone, Copy, PartialEq, Eq, Debug)]

@@ -1,7 +1,7 @@
 //! What broke the rule of a refusal, in words.
 
 use crate::commands::{Dimension, Tab};
-use crate::culprits::{Break, Crossing, Culprits, Twice};
+use crate::explain::culprits::{Break, Crossing, Culprits, Twice};
 use crate::text;
 use crate::words::{counted, row};
 

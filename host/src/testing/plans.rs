@@ -1,8 +1,8 @@
 //! Plans to make tests of: random ones, planar grids, plans of one long orbit, and rings in them.
 
 use crate::commands::{Command, Dimension, Tab};
-use crate::random::Random;
-use crate::second::{Map, Part, Plan};
+use crate::testing::random::Random;
+use crate::testing::second::{Map, Part, Plan};
 use std::collections::{BTreeMap, BTreeSet};
 
 /// A permutation of the tabs with cycles of at most `longest`.

@@ -1,9 +1,9 @@
 //! Tapes to make tests of: random ones, whole and damaged.
 
 use crate::commands::{write, Command, Tab};
-use crate::plans;
-use crate::random::Random;
-use crate::second::Plan;
+use crate::testing::plans;
+use crate::testing::random::Random;
+use crate::testing::second::Plan;
 
 /// Commands that were accepted on the way, with one now and then that was not.
 pub fn random(random: &mut Random, capacity: usize) -> Vec<u8> {

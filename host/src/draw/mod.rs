@@ -1,8 +1,10 @@
 //! A plan as input for Graphviz's `dot`. A drawing keeps no order round a cell or a tie, so the round is written on it.
 
+pub mod nodes;
+
+use self::nodes::{Node, Nodes, Piece};
 use crate::binding;
 use crate::commands::{Dimension, Tab};
-use crate::nodes::{Node, Nodes, Piece};
 use crate::words;
 
 const HEAD: &str = r#"// Cells are ellipses, ties are boxes, and each tab is the line between its cell and its tie.

@@ -1,10 +1,13 @@
 //! How the run of a tape went, in words: what was accepted, or which command was refused, and why.
 
+pub mod culprits;
+pub mod refusals;
+pub mod sentences;
+
+use self::culprits::Culprits;
+use self::sentences::sentences;
 use crate::binding::{self, Needs};
 use crate::commands::{self, Command, MAX_CAPACITY};
-use crate::culprits::{self, Culprits};
-use crate::refusals;
-use crate::sentences::sentences;
 use crate::text::{self, Line};
 use crate::words::{counted, report, row, SHOWN};
 
