@@ -6,14 +6,17 @@ use Prim.Native.Nat.{ℕ, zero, suc, _+_, _*_, _≤_, _<_}
 use native.Mathlib.Nat.{zero-add}
 use native.Mathlib.Numerals.{add-one}
 use native.Mathlib.Omega.{arith}
-use lib.Dec.{leb, eqb}
+use lib.Dec.{leb}
 use lib.ListN.{length, getD, take, drop, set, length-set}
 use lib.Seq.{take-all, take-at, drop-length, paste-suc}
-use borrow.Author.Tests.{leb-true, ltb-true}
+use borrow.Author.Tests.{leb-true, ltb-true, lt-ltb, le-leb, lt-leb, ne-eqb}
 use Rattle.hypermap.specs.Lists.{all}
-use Rattle.hypermap.proofs.Basics.Bools.{andLeft, andRight}
-use Rattle.tape.specs.Tapes.{operandBytes, isCommand, commandSize, byteOf, sizeOf}
+use Rattle.hypermap.proofs.Basics.Bools.{byCases, andLeft, andRight}
+use Rattle.table.specs.Refusals.{orElse, unless}
+use Rattle.tape.specs.Tapes.{operandBytes, isCommand, commandSize, byteOf, sizeOf, readFault}
 use Rattle.tape.specs.Tapes.{numberAt, numbersFrom}
+use Rattle.tape.specs.Inner.{Reads}
+use Rattle.tape.specs.declared.Reading.the-variants.{Refused}
 
 -- COMMAND BYTES are indices of the operand table, and its entries are small
 pub commandBelow : (b : ℕ) → isCommand b ≡ true → b < 9
@@ -34,33 +37,82 @@ pub commandSmall : (b : ℕ) → commandSize b ≤ 5
 unfolding commandSize
 commandSmall b = let h = entrySmall refl b in omega arith
 
--- the operands of a whole command lie on the tape
-pub operandsLie :
-    (bs : List ℕ) (b k : ℕ) → b ≡ byteOf bs → sizeOf bs ≤ length bs → b ≡ k → commandSize k ≤ length bs
-unfolding sizeOf
-operandsLie bs b k e s q =
-    let h : commandSize (byteOf bs) ≤ length bs = omega arith in rw (sym e ∙ q) at h
+-- commands of one dart, and of two
+pub oneDart : (b : ℕ) → 1 ≤ b → b ≤ 2 → commandSize b ≡ 3
+unfolding commandSize operandBytes
+oneDart zero p q = absurd (omega arith)
+oneDart (suc zero) p q = refl
+oneDart (suc (suc zero)) p q = refl
+oneDart (suc (suc (suc b))) p q = absurd (omega arith)
+
+pub twoDarts : (b : ℕ) → 3 ≤ b → b ≤ 6 → commandSize b ≡ 5
+unfolding commandSize operandBytes
+twoDarts zero p q = absurd (omega arith)
+twoDarts (suc zero) p q = absurd (omega arith)
+twoDarts (suc (suc zero)) p q = absurd (omega arith)
+twoDarts (suc (suc (suc zero))) p q = refl
+twoDarts (suc (suc (suc (suc zero)))) p q = refl
+twoDarts (suc (suc (suc (suc (suc zero))))) p q = refl
+twoDarts (suc (suc (suc (suc (suc (suc zero)))))) p q = refl
+twoDarts (suc (suc (suc (suc (suc (suc (suc b))))))) p q = absurd (omega arith)
+
+pub isKnown : (b : ℕ) → 1 ≤ b → b ≤ 8 → isCommand b ≡ true
+unfolding isCommand operandBytes
+isKnown b p q = rw (le-leb 1 b p, lt-ltb b 9 (omega arith))
+
+-- READING by the byte. The first command is known, and has n bytes
+pub record Sized (bs : List ℕ) (n : ℕ) : Type 0 where
+  pub known : isCommand (byteOf bs) ≡ true
+  pub size : n ≡ sizeOf bs
+
+module _ {bs : List ℕ} {n : ℕ} (s : Sized bs n) where
+  pub tornReads : length bs < n → Reads bs (Refused 16)
+  unfolding readFault orElse unless
+  tornReads l = (rw (s .known, ← (s .size), lt-leb _ _ l), λ z. omega arith)
+
+  pub wholeFault : n ≤ length bs → readFault bs ≡ 0
+  unfolding readFault orElse unless
+  wholeFault l = rw (s .known, ← (s .size), le-leb _ _ l)
 
 -- the bytes of a command other than a ring are its entry's
-pub plainSize : (bs : List ℕ) (b k : ℕ) → b ≡ byteOf bs → b ≡ k → eqb k 8 ≡ false → commandSize k ≡ sizeOf bs
+pub plainSized : (bs : List ℕ) (b n : ℕ) → b ≡ byteOf bs → 1 ≤ b → b ≤ 7 → n ≡ commandSize b → Sized bs n
 unfolding sizeOf
-plainSize bs b k e q f = rw (sym e ∙ q, f) (omega arith)
+plainSized bs b n h p q e =
+    record {
+      known = rw (← h) (isKnown b (omega arith) (omega arith));
+      size = rw (← h, ne-eqb b 8 (λ z. omega arith)) (omega arith);
+    }
 
+pub ringSized : {bs : List ℕ} {n : ℕ} → byteOf bs ≡ 8 → n ≡ commandSize 8 + 4 * getD bs 1 0 → Sized bs n
+unfolding sizeOf
+ringSized e q = record { known = rw e (isKnown 8 (omega arith) (omega arith)); size = rw e q }
+
+-- a byte that no arm before has: a vertex cut, or no command
 above : (k b : ℕ) → (b ≡ k → ⊥) → k ≤ b → k + 1 ≤ b
 above k b n l = omega arith
 
--- and what is no other command is a ring
-pub ringSize :
-    (bs : List ℕ) (b n : ℕ) → b ≡ byteOf bs → isCommand b ≡ true → (b ≡ 1 → ⊥) → (b ≡ 2 → ⊥) → (b ≡ 3 → ⊥) →
-    (b ≡ 4 → ⊥) → (b ≡ 5 → ⊥) → (b ≡ 6 → ⊥) → (b ≡ 7 → ⊥) → n ≡ getD bs 1 0 → commandSize 8 + 4 * n ≡ sizeOf bs
-unfolding sizeOf isCommand
-ringSize bs b n e h n₁ n₂ n₃ n₄ n₅ n₆ n₇ f =
+pub lastOfFour : (b : ℕ) → 3 ≤ b → b ≤ 6 → (b ≡ 3 → ⊥) → (b ≡ 4 → ⊥) → (b ≡ 5 → ⊥) → b ≡ 6
+lastOfFour b p q n₃ n₄ n₅ = let l = above 5 b n₅ (above 4 b n₄ (above 3 b n₃ p)) in omega arith
+
+pub unknownReads :
+    (bs : List ℕ) (b : ℕ) → b ≡ byteOf bs → (b ≡ 1 → ⊥) → (b ≡ 2 → ⊥) → (b ≡ 3 → ⊥) → (b ≡ 4 → ⊥) →
+    (b ≡ 5 → ⊥) → (b ≡ 6 → ⊥) → (b ≡ 7 → ⊥) → (b ≡ 8 → ⊥) → Reads bs (Refused 15)
+unfolding readFault orElse unless isCommand
+unknownReads bs b e n₁ n₂ n₃ n₄ n₅ n₆ n₇ n₈ =
+    let none : isCommand b ≡ false =
+    byCases (isCommand b)
+    (λ h.
     let some = leb-true 1 b (andLeft (leb 1 b) _ h) in
     let u = commandBelow b h in
-    let l : 8 ≤ b =
-    above 7 b n₇ (above 6 b n₆ (above 5 b n₅ (above 4 b n₄ (above 3 b n₃ (above 2 b n₂ (above 1 b n₁ some)))))) in
-    let q : b ≡ 8 = omega (arith, l, u) in
-    rw (sym e ∙ q, f) refl
+    let l = above 8 b n₈ (above 7 b n₇ (above 6 b n₆ (above 5 b n₅ (above 4 b n₄ (above 3 b n₃
+    (above 2 b n₂ (above 1 b n₁ some))))))) in
+    absurd (omega arith)) (λ h. h) in
+    (rw (← e, none), λ z. omega arith)
+
+-- a byte that is not 0 stands on the tape
+pub someByte : (bs : List ℕ) (b : ℕ) → b ≡ byteOf bs → 0 < b → 0 < length bs
+someByte [] b e p = absurd (omega arith)
+someByte (x ∷ bs) b e p = omega arith
 
 -- NUMBERS one after the other
 pub numbersLength : (n i : ℕ) (bs : List ℕ) → length (numbersFrom n i bs) ≡ n

@@ -1,14 +1,14 @@
 -- What the inner functions are lent and answer. Assumes nothing: these are definitions.
 use mathlib.Core.Path.{_≡_}
 use mathlib.Core.List.{List}
-use Prim.Native.Nat.{ℕ, _+_, _*_, _≤_}
+use Prim.Native.Nat.{ℕ, _*_, _≤_}
 use lib.ListN.{length}
 use Rattle.table.specs.Layout.{Table}
 use Rattle.table.specs.Commands.{puts, takesOut, joins, cuts}
 use Rattle.table.specs.Inner.{dimensionOf}
 use Rattle.parts.specs.Inner.{Counted}
 use Rattle.tape.specs.Steps.{TapeCommand, changes, reports, cutsRing}
-use Rattle.tape.specs.Tapes.{commandSize, sizeOf, commandOf, readFault, numbersFrom}
+use Rattle.tape.specs.Tapes.{operandBytes, byteOf, sizeOf, commandOf, readFault, numbersFrom}
 use Rattle.tape.specs.declared.Instruction.{Instruction}
 use Rattle.tape.specs.declared.Instruction.the-variants.{Put, TakeOut, Join, Cut, Report, RingCut}
 use Rattle.tape.specs.declared.Reading.{Reading}
@@ -23,14 +23,12 @@ meaning bs (Cut d a b) = changes (cuts (dimensionOf d) a b)
 meaning bs Report = reports
 meaning bs (RingCut n) = cutsRing (numbersFrom (2 * n) 2 bs)
 
--- the bytes of its command; commands for edges and for vertices are of one size
-abbrev pub instructionSize : Instruction → ℕ
-instructionSize (Put x) = commandSize 1
-instructionSize (TakeOut x) = commandSize 2
-instructionSize (Join d a b) = commandSize 3
-instructionSize (Cut d a b) = commandSize 4
-instructionSize Report = commandSize 7
-instructionSize (RingCut n) = commandSize 8 + 4 * n
+-- the first command's byte is b, which lies from m to n, and the operand table is lent
+pub record StartsBy (tape : List ℕ) (b m n : ℕ) (lent : List ℕ) : Type 0 where
+  pub byte : b ≡ byteOf tape
+  pub least : m ≤ b
+  pub most : b ≤ n
+  pub operands : lent ≡ operandBytes
 
 -- the number that document 01 gives an answer of the decoder
 abbrev pub numberOf : Reading → ℕ

@@ -1,11 +1,9 @@
 // The decoder: reads the first command of a tape whole, before any operand is judged.
 ghost use mathlib.Core.Path.{_≡_};
-ghost use mathlib.Core.Bool.{true};
 ghost use Prim.Native.Nat.{_+_, _*_, _≤_, _<_};
 ghost use lib.ListN.{getD, length};
-ghost use Rattle.tape.specs.Tapes.{byteOf, isCommand, numberAt, numbersFrom, sizeOf, commandOf};
-ghost use Rattle.tape.specs.Tapes.{operandBytes};
-ghost use Rattle.tape.specs.Inner.{meaning, instructionSize, numberOf, Reads};
+ghost use Rattle.tape.specs.Tapes.{byteOf, operandBytes, numberAt, numbersFrom};
+ghost use Rattle.tape.specs.Inner.{StartsBy, numberOf, Reads};
 use crate::Instruction;
 use crate::Reading;
 use crate::operands;
@@ -42,68 +40,77 @@ pub fn number_or_zero(tape: &[u8], i: usize) -> u16
     number_of_bytes(byte_at(tape, i), byte_at(tape, i + 1))
 }
 
-// The bytes of the first command.
-fn size_of(tape: &[u8], byte: u8, operand_bytes: &[u8]) -> usize
-    requires { ⌜ (byte ≡ byteOf (now tape)) × (isCommand byte ≡ true) × (now «operand_bytes» ≡ operandBytes) ⌝ }
-    ensures { λ r. ⌜ r ≡ sizeOf (now (tape .entry)) ⌝ }
+// A put or a take-out. Its byte is an argument, so that where the caller names it the compiler knows the size too.
+fn one_dart(tape: &[u8], byte: u8, operand_bytes: &[u8; 9]) -> Reading
+    requires { ⌜ StartsBy (now tape) byte 1 2 (now «operand_bytes») ⌝ }
+    ensures { λ r. ⌜ Reads (now (tape .entry)) r ⌝ }
 {
     let size = operands::command_size(operand_bytes, byte);
-    if byte == operands::RING_CUT {
-        size + 4 * operands::wide(byte_at(tape, 1))
-    } else {
-        size
+    if tape.len() < size {
+        return Reading::Refused(refusal::TORN_COMMAND);
     }
+    let x = number_at(tape, 1);
+    let instruction = match byte {
+        operands::PUT => Instruction::Put(x),
+        _ => Instruction::TakeOut(x),
+    };
+    Reading::Whole(instruction, size)
 }
 
-// The first command. Its operands are numbers here, whatever they are.
-fn instruction_at(tape: &[u8], byte: u8) -> Instruction
-    requires { ⌜ (byte ≡ byteOf (now tape)) × (isCommand byte ≡ true) × (sizeOf (now tape) ≤ length (now tape)) ⌝ }
-    ensures { λ r. ⌜ meaning (now (tape .entry)) r ≡ commandOf (now (tape .entry)) ⌝ }
-    ensures size { λ r. ⌜ instructionSize r ≡ sizeOf (now (tape .entry)) ⌝ }
+// A join or a cut.
+fn two_darts(tape: &[u8], byte: u8, operand_bytes: &[u8; 9]) -> Reading
+    requires { ⌜ StartsBy (now tape) byte 3 6 (now «operand_bytes») ⌝ }
+    ensures { λ r. ⌜ Reads (now (tape .entry)) r ⌝ }
 {
-    match byte {
-        1 => Instruction::Put(number_at(tape, 1)),
-        2 => Instruction::TakeOut(number_at(tape, 1)),
-        3 => Instruction::Join(Dimension::Edge, number_at(tape, 1), number_at(tape, 3)),
-        4 => Instruction::Cut(Dimension::Edge, number_at(tape, 1), number_at(tape, 3)),
-        5 => Instruction::Join(Dimension::Vertex, number_at(tape, 1), number_at(tape, 3)),
-        6 => Instruction::Cut(Dimension::Vertex, number_at(tape, 1), number_at(tape, 3)),
-        7 => Instruction::Report,
-        _ => Instruction::RingCut(byte_at(tape, 1)),
+    let size = operands::command_size(operand_bytes, byte);
+    if tape.len() < size {
+        return Reading::Refused(refusal::TORN_COMMAND);
     }
+    let a = number_at(tape, 1);
+    let b = number_at(tape, 3);
+    let instruction = match byte {
+        operands::EDGE_JOIN => Instruction::Join(Dimension::Edge, a, b),
+        operands::EDGE_CUT => Instruction::Cut(Dimension::Edge, a, b),
+        operands::VERTEX_JOIN => Instruction::Join(Dimension::Vertex, a, b),
+        _ => Instruction::Cut(Dimension::Vertex, a, b),
+    };
+    Reading::Whole(instruction, size)
 }
 
-// The bytes of an instruction's command, once more. In each arm of a run the compiler knows them, so that the next
-// command need not wait for the operand table.
-fn instruction_size(instruction: Instruction, operand_bytes: &[u8]) -> usize
-    requires { ⌜ now «operand_bytes» ≡ operandBytes ⌝ }
-    ensures { λ r. ⌜ r ≡ instructionSize instruction ⌝ }
+fn ring(tape: &[u8], operand_bytes: &[u8; 9]) -> Reading
+    requires { ⌜ (byteOf (now tape) ≡ 8) × (now «operand_bytes» ≡ operandBytes) ⌝ }
+    ensures { λ r. ⌜ Reads (now (tape .entry)) r ⌝ }
 {
-    match instruction {
-        Instruction::Put(_) => operands::command_size(operand_bytes, operands::PUT),
-        Instruction::TakeOut(_) => operands::command_size(operand_bytes, operands::TAKE_OUT),
-        Instruction::Join(_, _, _) => operands::command_size(operand_bytes, operands::EDGE_JOIN),
-        Instruction::Cut(_, _, _) => operands::command_size(operand_bytes, operands::EDGE_CUT),
-        Instruction::Report => operands::command_size(operand_bytes, operands::REPORT),
-        Instruction::RingCut(n) => {
-            operands::command_size(operand_bytes, operands::RING_CUT) + 4 * operands::wide(n)
-        }
+    let n = byte_at(tape, 1);
+    let size = operands::command_size(operand_bytes, operands::RING_CUT) + 4 * operands::wide(n);
+    if tape.len() < size {
+        return Reading::Refused(refusal::TORN_COMMAND);
     }
+    Reading::Whole(Instruction::RingCut(n), size)
 }
 
-pub fn read(tape: &[u8], operand_bytes: &[u8]) -> Reading
+// Its operands are numbers here, whatever they are. The byte is judged once, and each arm judges the tape's length by a
+// size that the compiler knows. A report is its byte alone, which is there.
+pub fn read(tape: &[u8], operand_bytes: &[u8; 9]) -> Reading
     requires { ⌜ now «operand_bytes» ≡ operandBytes ⌝ }
     ensures { λ r. ⌜ Reads (now (tape .entry)) r ⌝ }
 {
-    let byte = byte_at(tape, 0);
-    if !operands::is_command(byte) {
-        return Reading::Refused(refusal::UNKNOWN_COMMAND);
+    match byte_at(tape, 0) {
+        operands::PUT => one_dart(tape, operands::PUT, operand_bytes),
+        operands::TAKE_OUT => one_dart(tape, operands::TAKE_OUT, operand_bytes),
+        operands::EDGE_JOIN => two_darts(tape, operands::EDGE_JOIN, operand_bytes),
+        operands::EDGE_CUT => two_darts(tape, operands::EDGE_CUT, operand_bytes),
+        operands::VERTEX_JOIN => two_darts(tape, operands::VERTEX_JOIN, operand_bytes),
+        operands::VERTEX_CUT => two_darts(tape, operands::VERTEX_CUT, operand_bytes),
+        operands::REPORT => {
+            Reading::Whole(
+                Instruction::Report,
+                operands::command_size(operand_bytes, operands::REPORT),
+            )
+        }
+        operands::RING_CUT => ring(tape, operand_bytes),
+        _ => Reading::Refused(refusal::UNKNOWN_COMMAND),
     }
-    if tape.len() < size_of(tape, byte, operand_bytes) {
-        return Reading::Refused(refusal::TORN_COMMAND);
-    }
-    let instruction = instruction_at(tape, byte);
-    Reading::Whole(instruction, instruction_size(instruction, operand_bytes))
 }
 
 // The number of a refused reading, 0 of a whole one.

@@ -17,6 +17,8 @@ pub const EDGE_CUT: u8 = 4;
 
 pub const VERTEX_JOIN: u8 = 5;
 
+pub const VERTEX_CUT: u8 = 6;
+
 pub const REPORT: u8 = 7;
 
 pub const RING_CUT: u8 = 8;
@@ -27,14 +29,8 @@ pub fn wide(x: u8) -> usize
     x as usize
 }
 
-pub fn is_command(byte: u8) -> bool
-    ensures { λ r. ⌜ r ≡ isCommand byte ⌝ }
-{
-    (1 <= byte) & (wide(byte) < OPERAND_BYTES.len())
-}
-
 // A command's own byte and its operand bytes.
-pub fn command_size(operand_bytes: &[u8], byte: u8) -> usize
+pub fn command_size(operand_bytes: &[u8; 9], byte: u8) -> usize
     requires { ⌜ (now «operand_bytes» ≡ operandBytes) × (isCommand byte ≡ true) ⌝ }
     ensures { λ r. ⌜ r ≡ commandSize byte ⌝ }
 {

@@ -85,7 +85,6 @@ run-spec =
     Inv-loop
     μ-loop
     loop-holds
-    (λ c. search needs)
     read-requires
     (λ c. search needs)
     (λ c. search needs)

@@ -66,7 +66,6 @@ needs-of-spec =
     Inv-loop
     μ-loop
     (λ c. countingFirst _)
-    (λ c. search needs)
     read-requires
     (λ c. search needs)
     (λ c. search needs)

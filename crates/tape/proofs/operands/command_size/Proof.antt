@@ -4,17 +4,13 @@ use Rattle.tape.proofs.Decoding.{commandBelow, entrySmall}
 use Rattle.tape.proofs.operands.command_size.Statement.{statement}
 use Rattle.tape.proofs.operands.command_size.Tie as tie
 
-shared-slice-read-wide : tie.Need-shared-slice-read-wide
-unfolding operandBytes
-shared-slice-read-wide c =
-    let p = c .before .before .before .pre in
-    let h = commandBelow _ (p .1) in
-    rw (p .0) (search needs)
+element-copy-out-wide : tie.Need-element-copy-out-wide
+element-copy-out-wide c = let h = commandBelow _ (c .before .pre .1) in search needs
 
 add-result : tie.Need-add-result
 add-result c =
     let w = c .before .before in
-    let h = entrySmall (w .before .before .pre .0) (w .wide .result) in
+    let h = entrySmall (w .before .pre .0) (w .wide .result) in
     search needs
 
 returns : tie.Need-returns
@@ -26,7 +22,7 @@ command-size-spec =
     tie.close
     (tie.spec
     (λ c κs. search needs)
-    shared-slice-read-wide
+    element-copy-out-wide
     (λ c κs. search needs)
     add-result
     returns)

@@ -92,7 +92,6 @@ play-spec =
     Inv-loop
     μ-loop
     loop-holds
-    (λ c. search needs)
     read-requires
     (λ c. search needs)
     (λ c. search needs)

@@ -33,17 +33,14 @@ pub tape-size-spec : {M : Type 1} → statement M
 tape-size-spec =
     tie.close
     (tie.spec
-    (λ c. search needs)
     command-size-requires
     (λ c. rw (putSize c) (search needs))
     (λ c. rw (putSize c) (search needs))
-    (λ c. search needs)
     command-size-requires-2
     (λ c. rw (edgeJoinSize c) (search needs))
     (λ c. search needs)
     (λ c. rw (edgeJoinSize c) (search needs))
     (λ c. rw (putSize (c .before .before), edgeJoinSize c) (search needs))
-    (λ c. search needs)
     command-size-requires-3
     (λ c. rw (vertexJoinSize c) (search needs))
     (λ c. search needs)

@@ -1,0 +1,49 @@
+use borrow.Author.Needs.{needs}
+use mathlib.Core.Path.{_≡_, sym, _∙_}
+use native.Mathlib.Omega.{arith}
+use Rattle.tape.specs.Tapes.{commandOf, readFault}
+use Rattle.tape.proofs.Decoding.{Sized, oneDart, isKnown, plainSized, tornReads, wholeFault}
+use Rattle.tape.proofs.decode.one_dart.Statement.{statement}
+use Rattle.tape.proofs.decode.one_dart.Tie as tie
+
+command-size-requires : tie.Need-command-size-requires
+command-size-requires c κs =
+    let p = c .before .pre in (p .operands, isKnown _ (omega arith) (omega arith))
+
+sized : (c : tie.After-command-size) → Sized (c .before .before .args .tape .now) (c .command-size .result)
+sized c = plainSized _ _ _ (c .before .before .pre .byte) (omega arith) (omega arith) (c .command-size .ensures)
+
+whole : (c : tie.Else1) → readFault (c .before .before .before .args .tape .now) ≡ 0
+whole c = wholeFault (sized (c .before)) (c .if1 .left)
+
+number-at-requires : tie.Need-number-at-requires
+number-at-requires c κs =
+    let s = c .before in
+    let p = s .before .before .pre in
+    omega (arith, oneDart _ (p .least) (p .most), s .command-size .ensures, c .if1 .left)
+
+returns-2 : tie.Need-returns-2
+unfolding commandOf
+returns-2 c =
+    let t = c .before .before in
+    let p = t .before .before .before .pre in
+    (whole t, rw (sym (p .byte) ∙ c .match .keys1) (cc), sized (t .before) .size)
+
+returns-3 : tie.Need-returns-3
+unfolding commandOf
+returns-3 c =
+    let t = c .before .before in
+    let p = t .before .before .before .pre in
+    let n = c .match .rest .1 in
+    let q : t .before .before .before .args .byte ≡ 2 = omega arith in
+    (whole t, rw (sym (p .byte) ∙ q) (cc), sized (t .before) .size)
+
+pub one-dart-spec : {M : Type 1} → statement M
+one-dart-spec =
+    tie.close
+    (tie.spec
+    command-size-requires
+    (λ c. tornReads (sized (c .before)) (c .if1 .taken))
+    number-at-requires
+    returns-2
+    returns-3)
