@@ -36,8 +36,10 @@ pub fn greatest_named(tape: &[u8], instruction: Instruction) -> u16
     match instruction {
         Instruction::Put(x) => x,
         Instruction::TakeOut(x) => x,
-        Instruction::Join(_, a, b) => larger_of(a, b),
-        Instruction::Cut(_, a, b) => larger_of(a, b),
+        Instruction::EdgeJoin(a, b) => larger_of(a, b),
+        Instruction::EdgeCut(a, b) => larger_of(a, b),
+        Instruction::VertexJoin(a, b) => larger_of(a, b),
+        Instruction::VertexCut(a, b) => larger_of(a, b),
         Instruction::Report => 0,
         Instruction::RingCut(n) => greatest_number(tape, 2 * operands::wide(n)),
     }

@@ -3,14 +3,15 @@ use mathlib.Core.Path.{_≡_}
 use mathlib.Core.List.{List}
 use Prim.Native.Nat.{ℕ, _*_, _≤_}
 use lib.ListN.{length}
+use Rattle.hypermap.specs.Hypermap.{edge, vertex}
 use Rattle.table.specs.Layout.{Table}
 use Rattle.table.specs.Commands.{puts, takesOut, joins, cuts}
-use Rattle.table.specs.Inner.{dimensionOf}
 use Rattle.parts.specs.Inner.{Counted}
 use Rattle.tape.specs.Steps.{TapeCommand, changes, reports, cutsRing}
 use Rattle.tape.specs.Tapes.{operandBytes, byteOf, sizeOf, commandOf, readFault, numbersFrom}
 use Rattle.tape.specs.declared.Instruction.{Instruction}
-use Rattle.tape.specs.declared.Instruction.the-variants.{Put, TakeOut, Join, Cut, Report, RingCut}
+use Rattle.tape.specs.declared.Instruction.the-variants.{Put, TakeOut, EdgeJoin, EdgeCut, VertexJoin, VertexCut}
+use Rattle.tape.specs.declared.Instruction.the-variants.{Report, RingCut}
 use Rattle.tape.specs.declared.Reading.{Reading}
 use Rattle.tape.specs.declared.Reading.the-variants.{Whole, Refused}
 
@@ -18,8 +19,10 @@ use Rattle.tape.specs.declared.Reading.the-variants.{Whole, Refused}
 abbrev pub meaning : (tape : List ℕ) → Instruction → TapeCommand
 meaning bs (Put x) = changes (puts x)
 meaning bs (TakeOut x) = changes (takesOut x)
-meaning bs (Join d a b) = changes (joins (dimensionOf d) a b)
-meaning bs (Cut d a b) = changes (cuts (dimensionOf d) a b)
+meaning bs (EdgeJoin a b) = changes (joins edge a b)
+meaning bs (EdgeCut a b) = changes (cuts edge a b)
+meaning bs (VertexJoin a b) = changes (joins vertex a b)
+meaning bs (VertexCut a b) = changes (cuts vertex a b)
 meaning bs Report = reports
 meaning bs (RingCut n) = cutsRing (numbersFrom (2 * n) 2 bs)
 

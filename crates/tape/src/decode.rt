@@ -7,7 +7,6 @@ ghost use Rattle.tape.specs.Inner.{StartsBy, numberOf, Reads};
 use crate::Instruction;
 use crate::Reading;
 use crate::operands;
-use table::Dimension;
 use table::refusal;
 
 // A byte of the tape, 0 behind its end.
@@ -69,10 +68,10 @@ fn two_darts(tape: &[u8], byte: u8, operand_bytes: &[u8; 9]) -> Reading
     let a = number_at(tape, 1);
     let b = number_at(tape, 3);
     let instruction = match byte {
-        operands::EDGE_JOIN => Instruction::Join(Dimension::Edge, a, b),
-        operands::EDGE_CUT => Instruction::Cut(Dimension::Edge, a, b),
-        operands::VERTEX_JOIN => Instruction::Join(Dimension::Vertex, a, b),
-        _ => Instruction::Cut(Dimension::Vertex, a, b),
+        operands::EDGE_JOIN => Instruction::EdgeJoin(a, b),
+        operands::EDGE_CUT => Instruction::EdgeCut(a, b),
+        operands::VERTEX_JOIN => Instruction::VertexJoin(a, b),
+        _ => Instruction::VertexCut(a, b),
     };
     Reading::Whole(instruction, size)
 }

@@ -6,14 +6,15 @@ pub mod operands;
 pub mod play;
 pub mod step;
 
-use table::Dimension;
-
-// A command of a tape. A ring has its number of double-links here, and its darts on the tape.
+// A command of a tape: a variant for each command byte, so that what carries out an arm knows its dimension. A ring has
+// its number of double-links here, and its darts on the tape.
 pub enum Instruction {
     Put(u16),
     TakeOut(u16),
-    Join(Dimension, u16, u16),
-    Cut(Dimension, u16, u16),
+    EdgeJoin(u16, u16),
+    EdgeCut(u16, u16),
+    VertexJoin(u16, u16),
+    VertexCut(u16, u16),
     Report,
     RingCut(u8),
 }

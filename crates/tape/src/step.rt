@@ -10,6 +10,7 @@ use crate::Instruction;
 use crate::decode;
 use crate::operands;
 use rings::cut;
+use table::Dimension;
 use table::command;
 
 // A ring of n double-links, whose darts stand behind the count on the tape.
@@ -35,8 +36,10 @@ pub fn perform(table: &mut [u16], tape: &[u8], instruction: Instruction) -> u8
     match instruction {
         Instruction::Put(x) => command::put(table, x),
         Instruction::TakeOut(x) => command::take_out(table, x),
-        Instruction::Join(d, a, b) => command::join(table, d, a, b),
-        Instruction::Cut(d, a, b) => command::cut(table, d, a, b),
+        Instruction::EdgeJoin(a, b) => command::join(table, Dimension::Edge, a, b),
+        Instruction::EdgeCut(a, b) => command::cut(table, Dimension::Edge, a, b),
+        Instruction::VertexJoin(a, b) => command::join(table, Dimension::Vertex, a, b),
+        Instruction::VertexCut(a, b) => command::cut(table, Dimension::Vertex, a, b),
         Instruction::Report => 0,
         Instruction::RingCut(n) => ring_cut(table, tape, n),
     }

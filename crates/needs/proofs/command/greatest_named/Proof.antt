@@ -25,10 +25,20 @@ returns-4 c =
 
 returns-5 : tie.Need-returns-5
 unfolding greatest
-returns-5 c = rw (c .enum-told .given .1) refl
+returns-5 c =
+    rw (c .before .before .instruction5 .given .1) (c .larger-of3 .ensures ∙ sym (ap (larger _) (largerZero _)))
 
 returns-6 : tie.Need-returns-6
-returns-6 c = rw (c .before .before .before .instruction5 .given .1) (cc (c .greatest-number .ensures))
+unfolding greatest
+returns-6 c =
+    rw (c .before .before .instruction6 .given .1) (c .larger-of4 .ensures ∙ sym (ap (larger _) (largerZero _)))
+
+returns-7 : tie.Need-returns-7
+unfolding greatest
+returns-7 c = rw (c .enum-told .given .1) refl
+
+returns-8 : tie.Need-returns-8
+returns-8 c = rw (c .before .before .before .instruction7 .given .1) (cc (c .greatest-number .ensures))
 
 pub greatest-named-spec : {M : Type 1} → statement M
 greatest-named-spec =
@@ -36,6 +46,10 @@ greatest-named-spec =
     (tie.spec
     (λ c. search needs)
     (λ c. search needs)
+    (λ c. search needs)
+    (λ c κs. search needs)
+    (λ c. search needs)
+    (λ c κs. search needs)
     (λ c. search needs)
     (λ c κs. search needs)
     (λ c. search needs)
@@ -50,4 +64,6 @@ greatest-named-spec =
     returns-3
     returns-4
     returns-5
-    returns-6)
+    returns-6
+    returns-7
+    returns-8)
