@@ -84,7 +84,8 @@ pub fn write_orbit(table: &[u16], orbit: Orbit, x: u16, out: &mut [u16])
     }
 }
 
-// Whether a and b lie in one edge or vertex. Walks from both in lockstep, so the cost is that of the shorter orbit.
+// Whether a and b lie in one edge or vertex. Walks from both in lockstep, so the cost is that of the shorter orbit. The
+// walk from b goes first: on a canonical tape the second dart of a join is alone.
 pub fn is_together(table: &[u16], d: Dimension, a: u16, b: u16) -> bool
     requires { ⌜ SoundAtBoth (now table) a b ⌝ }
     ensures { λ r. ⌜ r ≡ isTogether (now (table .entry)) (dimensionOf d) a b ⌝ }
@@ -92,18 +93,18 @@ pub fn is_together(table: &[u16], d: Dimension, a: u16, b: u16) -> bool
     let mut x = a;
     let mut y = b;
     loop {
-        if x == b {
-            return true;
-        }
-        x = next(table, d, x);
-        if x == a {
-            return false;
-        }
         if y == a {
             return true;
         }
         y = next(table, d, y);
         if y == b {
+            return false;
+        }
+        if x == b {
+            return true;
+        }
+        x = next(table, d, x);
+        if x == a {
             return false;
         }
     }

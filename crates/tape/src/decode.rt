@@ -88,8 +88,9 @@ fn ring(tape: &[u8], operand_bytes: &[u8; 9]) -> Reading
     Reading::Whole(Instruction::RingCut(n), size)
 }
 
-// Its operands are numbers here, whatever they are. The byte is judged once, and each arm judges the tape's length by a
-// size that the compiler knows. A report is its byte alone, which is there.
+// The first command. Its operands are numbers here, whatever they are. The byte is judged once, and each arm judges the
+// tape's length by a size that the compiler knows; a report is its byte alone, which is there. Small as it is, the
+// compiler puts it into the loop of whoever reads a tape.
 pub fn read(tape: &[u8], operand_bytes: &[u8; 9]) -> Reading
     requires { ⌜ now «operand_bytes» ≡ operandBytes ⌝ }
     ensures { λ r. ⌜ Reads (now (tape .entry)) r ⌝ }
