@@ -66,11 +66,11 @@ pub fn back_word(d: Dimension) -> usize
     }
 }
 
-// Whether x is a number from 1 to the capacity.
+// Whether x is a number from 1 to the capacity. One test for both ends: 0 less 1 wraps to the greatest number of all.
 pub fn is_number(table: &[u16], x: u16) -> bool
     ensures { λ r. ⌜ r ≡ isNumber (now (table .entry)) x ⌝ }
 {
-    (1 <= x) & (wide(x) <= capacity_of(table))
+    std::num::wrapping_sub_usize(wide(x), 1) < capacity_of(table)
 }
 
 pub fn is_present(table: &[u16], x: u16) -> bool
