@@ -90,67 +90,85 @@ fn count_orbits(table: &[u16], step: impl Fn(&[u16], u16) -> u16 + Copy, value: 
     count
 }
 
-/// Marks the piece of a tab; how many tabs it has.
-fn flood(table: &[u16], tab: u16, marks: &mut [u16], queue: &mut [u16]) -> usize {
-    marks[tab as usize - 1] = tab;
-    queue[0] = tab;
-    let (mut head, mut tail) = (0, 1);
-    while head < tail {
-        let row = at(queue[head]);
-        head += 1;
-        for next in [table[row], table[row + 2]] {
-            if marks[next as usize - 1] == 0 {
-                marks[next as usize - 1] = tab;
-                queue[tail] = next;
-                tail += 1;
-            }
-        }
-    }
-    tail
-}
-
-/// How many pieces there are, and how many of them have at least two tabs.
-fn count_pieces(table: &[u16]) -> (u32, u32) {
-    let mut marks = [0u16; 4096];
-    let mut queue = [0u16; 4096];
-    let (mut pieces, mut lifts) = (0, 0);
+/// The ties of the tabs that are marked with `value`. One of at most two tabs is counted at the smaller, without a mark.
+fn count_ties(table: &[u16], value: u16, marks: &mut [u16]) -> u32 {
+    let mut count = 0;
     for tab in 1..=(table.len() / 4) as u16 {
-        if table[at(tab)] == 0 || marks[tab as usize - 1] != 0 {
+        if marks[tab as usize - 1] != value {
             continue;
         }
-        pieces += 1;
-        lifts += (flood(table, tab, &mut marks, &mut queue) >= 2) as u32;
+        let next = tie_step(table, tab);
+        if tie_step(table, next) == tab {
+            count += (tab <= next) as u32;
+        } else {
+            mark_orbit(table, tie_step, tab, value + 1, marks);
+            count += 1;
+        }
     }
-    (pieces, lifts)
+    count
 }
 
-/// The numbers of the tabs that are marked with `value`.
-fn marked_counts(table: &[u16], marks: &mut [u16], value: u16, tabs: u32, pieces: u32, lifts: u32) -> Totals {
-    let ties = count_orbits(table, tie_step, value, marks);
-    let cells = count_orbits(table, cell_step, value + 1, marks);
-    let gaps = count_orbits(table, gap_step, value + 2, marks);
+/// Marks the gap of a tab, and puts the tie predecessors of its tabs into the queue; the queue's length afterwards.
+fn enter(table: &[u16], tab: u16, value: u16, marks: &mut [u16], queue: &mut [u16], mut tail: usize) -> usize {
+    let mut x = tab;
+    loop {
+        marks[x as usize - 1] = value;
+        let back = table[at(x) + 1];
+        queue[tail] = back;
+        tail += 1;
+        x = table[at(back) + 3];
+        if x == tab {
+            return tail;
+        }
+    }
+}
+
+/// Marks the piece of a tab, gap by gap; how many gaps it has.
+fn flood(table: &[u16], tab: u16, value: u16, marks: &mut [u16], queue: &mut [u16]) -> u32 {
+    let mut tail = enter(table, tab, value, marks, queue, 0);
+    let (mut head, mut gaps) = (0, 1);
+    while head < tail {
+        let next = queue[head];
+        if marks[next as usize - 1] == 0 {
+            tail = enter(table, next, value, marks, queue, tail);
+            gaps += 1;
+        }
+        head += 1;
+    }
+    gaps
+}
+
+fn lifts_of_piece(table: &[u16], tab: u16) -> u32 {
+    (tie_step(table, tab) != tab || cell_step(table, tab) != tab) as u32
+}
+
+/// The numbers of the tabs that are marked with 1.
+fn marked_counts(table: &[u16], marks: &mut [u16], pieces: u32, lifts: u32, gaps: u32) -> Totals {
+    let tabs = marks.iter().filter(|&&mark| mark == 1).count() as u32;
+    let cells = count_orbits(table, cell_step, 1, marks);
+    let ties = count_ties(table, 2, marks);
     let characteristic = cells as i32 + ties as i32 + gaps as i32 - tabs as i32;
     let handles = ((2 * pieces as i32 - characteristic) / 2) as u32;
     Totals { number: 0, tabs, ties, cells, gaps, pieces, characteristic, handles, lifts }
 }
 
 fn counts(table: &[u16]) -> Totals {
-    let (pieces, lifts) = count_pieces(table);
-    let mut marks = [0u16; 4096];
-    let mut tabs = 0;
-    for (row, mark) in table.chunks_exact(4).zip(&mut marks) {
-        if row[0] != 0 {
-            *mark = 1;
-            tabs += 1;
+    let (mut marks, mut queue) = ([0u16; 4096], [0u16; 4096]);
+    let (mut pieces, mut lifts, mut gaps) = (0, 0, 0);
+    for tab in 1..=(table.len() / 4) as u16 {
+        if table[at(tab)] != 0 && marks[tab as usize - 1] == 0 {
+            gaps += flood(table, tab, 1, &mut marks, &mut queue);
+            lifts += lifts_of_piece(table, tab);
+            pieces += 1;
         }
     }
-    marked_counts(table, &mut marks, 1, tabs, pieces, lifts)
+    marked_counts(table, &mut marks, pieces, lifts, gaps)
 }
 
 fn piece_counts(table: &[u16], tab: u16) -> Totals {
     let (mut marks, mut queue) = ([0u16; 4096], [0u16; 4096]);
-    let tabs = flood(table, tab, &mut marks, &mut queue) as u32;
-    marked_counts(table, &mut marks, tab, tabs, 1, (tabs >= 2) as u32)
+    let gaps = flood(table, tab, 1, &mut marks, &mut queue);
+    marked_counts(table, &mut marks, 1, lifts_of_piece(table, tab), gaps)
 }
 
 pub fn report(table: &[u16]) -> Totals {
@@ -224,18 +242,18 @@ fn together(table: &[u16], dimension: Dimension, a: u16, b: u16) -> bool {
     let next = |x: u16| table[at(x) + dimension as usize];
     let (mut x, mut y) = (a, b);
     loop {
-        if x == b {
-            return true;
-        }
-        x = next(x);
-        if x == a {
-            return false;
-        }
         if y == a {
             return true;
         }
         y = next(y);
         if y == b {
+            return false;
+        }
+        if x == b {
+            return true;
+        }
+        x = next(x);
+        if x == a {
             return false;
         }
     }
@@ -399,34 +417,37 @@ fn command_size(tape: &[u8]) -> Result<usize, u8> {
     }
 }
 
-fn perform(table: &mut [u16], tape: &[u8]) -> u8 {
+fn ring_on_tape(table: &mut [u16], tape: &[u8]) -> u8 {
+    let mut words = [0; 510];
+    let count = 2 * tape[1] as usize;
+    for (word, pair) in words[..count].iter_mut().zip(tape[2..].chunks_exact(2)) {
+        *word = u16::from_le_bytes([pair[0], pair[1]]);
+    }
+    ring_cut_on(table, &words[..count])
+}
+
+/// Carries out the first command of a tape: its refusal, or 0, and its bytes. A size is judged in the command's own arm,
+/// where it is a constant.
+fn perform(table: &mut [u16], tape: &[u8]) -> (u8, usize) {
     match tape[0] {
-        1 => put_on(table, number_at(tape, 1)),
-        2 => take_out_on(table, number_at(tape, 1)),
-        3 => join_on(table, Dimension::Tie, number_at(tape, 1), number_at(tape, 3)),
-        4 => cut_on(table, Dimension::Tie, number_at(tape, 1), number_at(tape, 3)),
-        5 => join_on(table, Dimension::Cell, number_at(tape, 1), number_at(tape, 3)),
-        6 => cut_on(table, Dimension::Cell, number_at(tape, 1), number_at(tape, 3)),
-        7 => 0,
-        _ => {
-            let mut words = [0; 510];
-            let count = 2 * tape[1] as usize;
-            for (word, pair) in words[..count].iter_mut().zip(tape[2..].chunks_exact(2)) {
-                *word = u16::from_le_bytes([pair[0], pair[1]]);
-            }
-            ring_cut_on(table, &words[..count])
-        }
+        1 if tape.len() >= 3 => (put_on(table, number_at(tape, 1)), 3),
+        2 if tape.len() >= 3 => (take_out_on(table, number_at(tape, 1)), 3),
+        3 if tape.len() >= 5 => (join_on(table, Dimension::Tie, number_at(tape, 1), number_at(tape, 3)), 5),
+        4 if tape.len() >= 5 => (cut_on(table, Dimension::Tie, number_at(tape, 1), number_at(tape, 3)), 5),
+        5 if tape.len() >= 5 => (join_on(table, Dimension::Cell, number_at(tape, 1), number_at(tape, 3)), 5),
+        6 if tape.len() >= 5 => (cut_on(table, Dimension::Cell, number_at(tape, 1), number_at(tape, 3)), 5),
+        7 => (0, 1),
+        _ => match command_size(tape) {
+            Ok(size) => (ring_on_tape(table, tape), size),
+            Err(number) => (number, 0),
+        },
     }
 }
 
 fn run(table: &mut [u16], tape: &[u8]) -> Run {
     let (mut rest, mut accepted) = (tape, 0);
     while !rest.is_empty() {
-        let size = match command_size(rest) {
-            Ok(size) => size,
-            Err(number) => return Run { number, accepted },
-        };
-        let number = perform(table, rest);
+        let (number, size) = perform(table, rest);
         if number != 0 {
             return Run { number, accepted };
         }
