@@ -1,13 +1,13 @@
 /* The kernel beside CGAL's Combinatorial_map on planar grids: build, count, ring with its conditions checked, recount.
- * One process; a rotation of plans, so that none is known by heart; the best of several medians.
+ * One process, the sides in turn; a rotation of plans, so that none is known by heart; the best of several medians.
  *
  * In CGAL's map the vertices of a plan (document 01: cells) are the orbits of beta 1 and its edges (ties), of two
  * darts in a grid, those of beta 2; so its 2-cells, 1-cells and 0-cells are the plan's vertices, edges and faces
  * (gaps). A cut edge is unlinked from beta 2. At a dart without beta 2 a 0-cell of CGAL's ends, where the face of a
  * hypermap goes on; count_all_cells therefore has other faces after a ring, and a second column walks by hand instead.
  *
- * CGAL is given its best case: the successors stand ready in arrays, room is reserved, nothing is checked while it
- * builds, and its map is given back outside the time. The kernel plays a tape and checks every command. */
+ * CGAL is given its best case by the functions of its manual: the successors stand ready in arrays, nothing is checked
+ * while it builds, and its map is given back outside the time. The kernel plays a tape and checks every command. */
 #include <CGAL/Combinatorial_map.h>
 
 #include <algorithm>
@@ -31,9 +31,9 @@ using Dart = Map::Dart_handle;
 using Clock = std::chrono::steady_clock;
 using Darts = std::vector<Dart>; /* by tab; 0 is no tab */
 
-constexpr int PLANS = 64;  /* in rotation */
-constexpr int ROUNDS = 320; /* for one median */
-constexpr int PASSES = 7;
+constexpr int PLANS = 64;   /* in rotation */
+constexpr int ROUNDS = 192; /* for one median */
+constexpr int PASSES = 15;
 
 void require(bool so, const char *what) {
     if (!so) {
@@ -220,7 +220,6 @@ Outcome by_kernel(const Plan &plan, std::vector<uint16_t> &table) {
 /* CGAL */
 
 void build(Map &map, const Plan &plan, Darts &dart) {
-    map.darts().reserve(plan.tabs());
     for (int t = 1; t <= plan.tabs(); t++) dart[t] = map.create_dart();
     for (int t = 1; t <= plan.tabs(); t++) map.link_beta<1>(dart[t], dart[plan.vertex[t]]);
     for (int t = 1; t <= plan.tabs(); t++)
@@ -359,19 +358,15 @@ double median(std::vector<double> times) {
     return times[times.size() / 2];
 }
 
-/* The best of several medians of each part, by one side. */
-template <typename Side> std::array<double, PARTS> measured(const std::vector<Plan> &plans, Side side) {
-    std::array<double, PARTS> best;
-    best.fill(1e9);
-    for (int pass = 0; pass < PASSES; pass++) {
-        std::array<std::vector<double>, PARTS> times;
-        for (int round = 0; round < ROUNDS; round++) {
-            const Outcome outcome = side(plans[round % plans.size()]);
-            for (int part = 0; part < PARTS; part++) times[part].push_back(outcome.times[part]);
-        }
-        for (int part = 0; part < PARTS; part++) best[part] = std::min(best[part], median(times[part]));
+/* The median of each part over many rounds, by one side; kept where it is better than before. */
+template <typename Side>
+void measure(const std::vector<Plan> &plans, std::array<double, PARTS> &best, Side side) {
+    std::array<std::vector<double>, PARTS> times;
+    for (int round = 0; round < ROUNDS; round++) {
+        const Outcome outcome = side(plans[round % plans.size()]);
+        for (int part = 0; part < PARTS; part++) times[part].push_back(outcome.times[part]);
     }
-    return best;
+    for (int part = 0; part < PARTS; part++) best[part] = std::min(best[part], median(times[part]));
 }
 
 double sum(const std::array<double, PARTS> &times) { return times[0] + times[1] + times[2] + times[3]; }
@@ -396,7 +391,14 @@ void compare(const char *numbering, const std::vector<Plan> &plans, int capacity
         agree(ours.before, walked.before, true);
         agree(ours.after, walked.after, true);
     }
-    const auto k = measured(plans, kernel), l = measured(plans, library), h = measured(plans, hand);
+    std::array<double, PARTS> k, l, h;
+    for (auto *best : {&k, &l, &h}) best->fill(1e9);
+    /* in turn, so that a machine that slows down for a while slows all sides */
+    for (int pass = 0; pass < PASSES; pass++) {
+        measure(plans, k, kernel);
+        measure(plans, l, library);
+        measure(plans, h, hand);
+    }
     std::printf("%d tabs, numbered %s, a ring of %zu crossings:\n", plans[0].tabs(), numbering,
                 plans[0].ring.size() / 2);
     const char *names[PARTS] = {"build", "count", "ring", "recount"};

@@ -8,22 +8,31 @@ use native.Mathlib.Omega.{arith}
 use lib.Dec.{ltb}
 use lib.ListN.{length, set}
 use lib.Seq.{getD-set-same, getD-set-other}
-use borrow.Author.Tests.{eqb-true, eq-eqb, ltb-true, ltb-false, le-leb}
+use borrow.Author.Tests.{eqb-true, eq-eqb, ne-eqb, ltb-true, ltb-false, le-leb}
 use Rattle.hypermap.specs.Lists.{among, keep, leastOf}
 use Rattle.hypermap.specs.Hypermap.{isLeastIn}
 use Rattle.hypermap.specs.Laws.{Equivalence}
-use Rattle.hypermap.proofs.Basics.Bools.{byCases, clash, boolExt, refuted, andLeft, andRight, andTrue}
+use Rattle.hypermap.proofs.Basics.Bools.{byCases, clash, boolExt, refuted, andLeft, andRight, andTrue, andSwap}
 use Rattle.hypermap.proofs.Basics.Lists.{Mem}
 use Rattle.hypermap.proofs.Laws.Counts.{leastHas, leastLow}
-use Rattle.table.specs.Layout.{Table, capacity, numbers, isNumber, isPresent, isSound, hypermapOf}
+use Rattle.table.specs.Layout.{Table, capacity, numbers, wordAt, isNumber, isPresent, isSound, hypermapOf}
 use Rattle.table.specs.Inner.{InTable}
+use Rattle.table.proofs.Reading.{presentIs}
 use Rattle.table.proofs.Soundness.{low, high, memPresent}
-use Rattle.parts.specs.Inner.{markAt, HasMark, MarkingAt, Painted}
+use Rattle.parts.specs.Inner.{markAt, HasMark, isFresh, MarkingAt, Painted}
 use Rattle.parts.proofs.Counting.{Counting, countingNone, countingYes, countingNo, countingAll, keepBoth}
 
 -- the tests of the pass
 pub number : (w : Table) (x : ℕ) → InTable w x 0 → isNumber w x ≡ true
 number w x i = rw (le-leb 1 x (i .low), le-leb x (capacity w) (i .high))
+
+module _ (w : Table) (x a : ℕ) (m : List ℕ) (isA : a ≡ markAt m x) where
+  pub freshNot : (a ≡ 0 → ⊥) → false ≡ isFresh w m x
+  freshNot d = rw (ne-eqb (markAt m x) 0 (rw isA at d)) (andSwap false (isPresent w x))
+
+  pub freshIf : (b : ℕ) → InTable w x 0 → a ≡ 0 → b ≡ wordAt w x 0 → ltb 0 b ≡ isFresh w m x
+  freshIf b i z isB =
+      rw (isB, presentIs w x (number w x i), eq-eqb (markAt m x) 0 (sym isA ∙ z)) (andSwap true (isPresent w x))
 
 -- A MARK written
 module _ (m : List ℕ) (x v : ℕ) (h : HasMark m x) where

@@ -10,7 +10,7 @@ use Rattle.hypermap.specs.Lists.{among}
 use Rattle.hypermap.specs.Hypermap.{edge, Hypermap, of, orbitOf, restrict}
 use Rattle.hypermap.specs.Hypermap as theory
 use Rattle.hypermap.specs.Laws.{Closed}
-use Rattle.table.specs.Layout.{Table, capacity, wordAt, nextWord, isPresent, isSound, hypermapOf}
+use Rattle.table.specs.Layout.{Table, capacity, wordAt, nextWord, backWord, isPresent, isSound, hypermapOf}
 use Rattle.table.specs.Inner.{SoundAt, SoundAtBoth}
 use Rattle.parts.specs.Counts as numbers
 use Rattle.parts.specs.declared.Flooded.{Flooded}
@@ -82,9 +82,10 @@ pub record Raised (value : ℕ) (before after : List ℕ) : Type 0 where
   pub inside : (y : ℕ) → 1 ≤ y → isMarked before value y ≡ true → markAt after y ≡ value + 1
   pub outside : (y : ℕ) → 1 ≤ y → isMarked before value y ≡ false → markAt after y ≡ markAt before y
 
--- EDGES of at most two darts, and where an edge is counted: at its smaller dart, if it is one of those
+-- EDGES of at most two darts, whose successor is the predecessor too, and where an edge is counted: at its smaller
+-- dart, if it is one of those
 abbrev pub isShort : Table → (x : ℕ) → Bool
-isShort w x = eqb (wordAt w (wordAt w x (nextWord edge)) (nextWord edge)) x
+isShort w x = eqb (wordAt w x (backWord edge)) (wordAt w x (nextWord edge))
 
 abbrev pub isTallied : Table → (x : ℕ) → Bool
 isTallied w x = not (isShort w x) || leb x (wordAt w x (nextWord edge))

@@ -1,5 +1,5 @@
-// Edges, counted. Nearly all have at most two darts: such an edge is counted at its smaller dart, without a mark and
-// without a branch, so that no order of the darts makes the pass slower.
+// Edges, counted. Nearly all have at most two darts, and are known by a successor that is the predecessor too. Such an
+// edge is counted at its smaller dart, without a mark and without a branch: no order of the darts makes the pass slower.
 ghost use mathlib.Core.Path.{_≡_};
 ghost use mathlib.Core.Bool.{cond};
 ghost use Prim.Native.Nat.{_<_};
@@ -8,9 +8,7 @@ ghost use Rattle.hypermap.specs.Hypermap.{edges};
 ghost use Rattle.parts.specs.Inner.{MarkingAt, MarkedSet, markedIn, isTallied, EdgeLeft};
 use crate::marks::mark_of;
 use crate::marks::mark_orbit;
-use table::Dimension;
 use table::Orbit;
-use table::walk;
 use table::words;
 
 // 1 if x is not greater than y, else 0.
@@ -26,8 +24,8 @@ fn tally(table: &[u16], marks: &mut [u16], x: u16, value: u16) -> u32
     ensures { λ r. ⌜ r ≡ cond (isTallied (now (table .entry)) x) 1 0 ⌝ }
     ensures marks { λ _. ⌜ EdgeLeft (now (table .entry)) x value (now (marks .entry)) (now (marks .exit)) ⌝ }
 {
-    let y = walk::next(table, Dimension::Edge, x);
-    if walk::next(table, Dimension::Edge, y) == x {
+    let y = words::word(table, x, 0);
+    if words::word(table, x, 1) == y {
         return one_if_least(x, y);
     }
     mark_orbit(table, Orbit::Edge, x, value, marks);

@@ -38,13 +38,17 @@ pub fn clear(marks: &mut [u16])
     }
 }
 
-// Whether x is a dart without a mark: in a pass over the numbers, the smallest dart of its part.
+// Whether x is a dart without a mark: in a pass over the numbers, the smallest dart of its part. Where there is a mark,
+// the table is not read.
 pub fn is_fresh(table: &[u16], marks: &[u16], x: u16) -> bool
     requires { ⌜ InTable (now table) x 0 ⌝ }
     requires marks { ⌜ HasMark (now marks) x ⌝ }
     ensures { λ r. ⌜ r ≡ isFresh (now (table .entry)) (now (marks .entry)) x ⌝ }
 {
-    (0 < words::word(table, x, 0)) & (mark_of(marks, x) == 0)
+    if mark_of(marks, x) != 0 {
+        return false;
+    }
+    0 < words::word(table, x, 0)
 }
 
 // Writes value at each dart of the orbit of x.
