@@ -90,16 +90,17 @@ fn count_orbits(table: &[u16], step: impl Fn(&[u16], u16) -> u16 + Copy, value: 
     count
 }
 
-/// The ties of the tabs that are marked with `value`. One of at most two tabs is counted at the smaller, without a mark.
+/// The ties of the tabs that are marked with `value`. A tie of at most two tabs, whose follower is its predecessor, is
+/// counted at its smaller tab, without a mark.
 fn count_ties(table: &[u16], value: u16, marks: &mut [u16]) -> u32 {
     let mut count = 0;
     for tab in 1..=(table.len() / 4) as u16 {
         if marks[tab as usize - 1] != value {
             continue;
         }
-        let next = tie_step(table, tab);
-        if tie_step(table, next) == tab {
-            count += (tab <= next) as u32;
+        let row = &table[at(tab)..at(tab) + 2];
+        if row[0] == row[1] {
+            count += (tab <= row[0]) as u32;
         } else {
             mark_orbit(table, tie_step, tab, value + 1, marks);
             count += 1;
@@ -156,7 +157,7 @@ fn counts(table: &[u16]) -> Totals {
     let (mut marks, mut queue) = ([0u16; 4096], [0u16; 4096]);
     let (mut pieces, mut lifts, mut gaps) = (0, 0, 0);
     for tab in 1..=(table.len() / 4) as u16 {
-        if table[at(tab)] != 0 && marks[tab as usize - 1] == 0 {
+        if marks[tab as usize - 1] == 0 && table[at(tab)] != 0 {
             gaps += flood(table, tab, 1, &mut marks, &mut queue);
             lifts += lifts_of_piece(table, tab);
             pieces += 1;
@@ -426,8 +427,8 @@ fn ring_on_tape(table: &mut [u16], tape: &[u8]) -> u8 {
     ring_cut_on(table, &words[..count])
 }
 
-/// Carries out the first command of a tape: its refusal, or 0, and its bytes. A size is judged in the command's own arm,
-/// where it is a constant.
+/// Carries out the first command of a tape: its refusal, or 0, and its bytes. A size is judged in the command's own
+/// arm, where it is a constant.
 fn perform(table: &mut [u16], tape: &[u8]) -> (u8, usize) {
     match tape[0] {
         1 if tape.len() >= 3 => (put_on(table, number_at(tape, 1)), 3),

@@ -1,5 +1,5 @@
 // Edges, counted. Nearly all have at most two darts, and are known by a successor that is the predecessor too. Such an
-// edge is counted at its smaller dart, without a mark and without a branch: no order of the darts makes the pass slower.
+// edge is counted at its smaller dart, without a mark and without a branch, so that no order of darts makes it slower.
 ghost use mathlib.Core.Path.{_≡_};
 ghost use mathlib.Core.Bool.{cond};
 ghost use Prim.Native.Nat.{_<_};
