@@ -153,15 +153,28 @@ fn marked_counts(table: &[u16], marks: &mut [u16], pieces: u32, lifts: u32, gaps
     Totals { number: 0, tabs, ties, cells, gaps, pieces, characteristic, handles, lifts }
 }
 
+/// A tab number from `tab` on, with marks at all before it: four at a time, as long as that goes.
+fn skip_marked(marks: &[u16], mut tab: usize, capacity: usize) -> usize {
+    while tab + 3 <= capacity && marks[tab - 1..tab + 3].iter().all(|&mark| mark != 0) {
+        tab += 4;
+    }
+    tab
+}
+
 fn counts(table: &[u16]) -> Totals {
     let (mut marks, mut queue) = ([0u16; 4096], [0u16; 4096]);
     let (mut pieces, mut lifts, mut gaps) = (0, 0, 0);
-    for tab in 1..=(table.len() / 4) as u16 {
-        if marks[tab as usize - 1] == 0 && table[at(tab)] != 0 {
-            gaps += flood(table, tab, 1, &mut marks, &mut queue);
-            lifts += lifts_of_piece(table, tab);
+    let capacity = table.len() / 4;
+    let mut tab = 1;
+    while tab <= capacity {
+        let mut next = tab + 1;
+        if marks[tab - 1] == 0 && table[4 * (tab - 1)] != 0 {
+            gaps += flood(table, tab as u16, 1, &mut marks, &mut queue);
+            lifts += lifts_of_piece(table, tab as u16);
             pieces += 1;
+            next = skip_marked(&marks, next, capacity);
         }
+        tab = next;
     }
     marked_counts(table, &mut marks, pieces, lifts, gaps)
 }

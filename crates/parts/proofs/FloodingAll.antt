@@ -1,8 +1,8 @@
 -- Floods over all darts, which get one mark: what is found of each component adds up to the whole. Assumes nothing.
-use mathlib.Core.Path.{_≡_, refl, sym, ap, _∙_}
+use mathlib.Core.Path.{_≡_, refl, sym, ap, _∙_, subst}
 use mathlib.Core.Bool.{true, false, _&&_}
 use mathlib.Core.List.{List}
-use Prim.Native.Nat.{ℕ, _+_, _-_, _≤_, _<_}
+use Prim.Native.Nat.{ℕ, zero, suc, _+_, _-_, _≤_, _<_}
 use native.Mathlib.Omega.{arith}
 use lib.Dec.{eqb}
 use lib.ListN.{length, replicate, length-replicate}
@@ -16,9 +16,9 @@ use Rattle.table.specs.Layout.{Table, capacity, numbers, isPresent, hypermapOf}
 use Rattle.table.proofs.Soundness.{memPresent, soundHypermap, dartsFew}
 use Rattle.table.proofs.Zeros.{zeroAt}
 use Rattle.parts.specs.Counts as reports
-use Rattle.parts.specs.Inner.{isFresh, Counted, Painted}
+use Rattle.parts.specs.Inner.{markAt, isFresh, Skipped, Counted, Painted}
 use Rattle.parts.proofs.Counting.{Summing, summingNone, summingYes, summingNo, summingAll, keepBoth}
-use Rattle.parts.proofs.Marking.{Sweep, Pass, Passed, passedNone, isFirst, passedFresh, passedOther}
+use Rattle.parts.proofs.Marking.{freshNot, Sweep, Pass, Passed, passedNone, isFirst, passedFresh, passedOther}
 use Rattle.parts.proofs.Marking.{passedCount, passedInside}
 use Rattle.parts.proofs.LeastMarks.{holdsAll}
 use Rattle.parts.proofs.Flooding.{componentParts}
@@ -148,3 +148,18 @@ module _ (w : Table) (k : Counted w) where
         inside = λ y t. passedInside w (allSweep w) allPass x c m (i .passed) h y (rw memPresent at t);
         outside = λ y o t. i .passed .outside y o (rw memPresent at t) ∙ sym (zeroAt 4096 (y - 1));
       }
+
+  -- marked numbers are passed over
+  pub allSkip :
+      (x c l f : ℕ) (m : List ℕ) (y n : ℕ) → n ≡ capacity w → Skipped m x n y → FloodingAll w x c l f m →
+      FloodingAll w y c l f m
+  allSkip x c l f m y n isN s i = go (y - x) x (omega (arith, s .from)) (s .marked) i
+    where
+      go :
+          (k x : ℕ) → y ≡ x + k → ((z : ℕ) → x ≤ z → z < y → markAt m z ≡ 0 → ⊥) → FloodingAll w x c l f m →
+          FloodingAll w y c l f m
+      go zero x e d i = let q : x ≡ y = omega arith in subst (λ z. FloodingAll w z c l f m) q i
+      go (suc k) x e d i =
+          go k (x + 1) (omega arith) (λ z o. d z (omega arith))
+          (allOther x c l f m i (omega (arith, s .high))
+          (sym (freshNot w x (markAt m x) m refl (d x (omega arith) (omega arith)))))

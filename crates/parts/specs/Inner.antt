@@ -2,7 +2,7 @@
 use mathlib.Core.Path.{_≡_}
 use mathlib.Core.Bool.{Bool, true, false, _&&_, _||_, not}
 use mathlib.Core.List.{List}
-use Prim.Native.Nat.{ℕ, _+_, _*_, _-_, _≤_}
+use Prim.Native.Nat.{ℕ, _+_, _*_, _-_, _≤_, _<_}
 use lib.Dec.{leb, eqb}
 use lib.IntN.{ℤ, pos, _+ℤ_}
 use lib.ListN.{length, getD}
@@ -52,6 +52,29 @@ pub record HasMark (marks : List ℕ) (x : ℕ) : Type 0 where
 -- a dart of a part that is not marked yet
 abbrev pub isFresh : Table → (marks : List ℕ) → (x : ℕ) → Bool
 isFresh w m x = isPresent w x && eqb (markAt m x) 0
+
+-- four numbers in a row, and whether they have marks
+pub record HasFour (marks : List ℕ) (x : ℕ) : Type 0 where
+  pub low : 1 ≤ x
+  pub high : x + 3 ≤ length marks
+  pub few : x ≤ 4096
+
+abbrev pub fourMarked : (marks : List ℕ) → (x : ℕ) → Bool
+fourMarked m x =
+    not (eqb (markAt m x) 0) && not (eqb (markAt m (x + 1)) 0) && not (eqb (markAt m (x + 2)) 0) &&
+    not (eqb (markAt m (x + 3)) 0)
+
+-- numbers from x on, up to n, are passed over while they have marks
+pub record Skipping (marks : List ℕ) (x n : ℕ) : Type 0 where
+  pub low : 1 ≤ x
+  pub high : x ≤ n + 1
+  pub room : n ≤ length marks
+  pub few : n ≤ 4096
+
+pub record Skipped (marks : List ℕ) (x n to : ℕ) : Type 0 where
+  pub from : x ≤ to
+  pub high : to ≤ n + 1
+  pub marked : (y : ℕ) → x ≤ y → y < to → markAt marks y ≡ 0 → ⊥
 
 -- a dart of a sound table, and marks for all darts
 pub record MarkingAt (w : Table) (x : ℕ) (marks : List ℕ) : Type 0 where

@@ -17,6 +17,7 @@ use crate::flood::flood;
 use crate::marks::is_fresh;
 use crate::marks::mark_of;
 use crate::marks::mark_orbit;
+use crate::marks::skip_marked;
 use table::Orbit;
 use table::command;
 use table::words;
@@ -130,7 +131,7 @@ pub fn marked_counts(
     }
 }
 
-// Writes 1 at each dart, flooding one component after another.
+// Writes 1 at each dart, flooding one component after another. Behind a flood most numbers are marked.
 pub fn flood_all(table: &[u16], marks: &mut [u16]) -> Flooded
     requires { ⌜ Counted (now table) × (now marks ≡ replicate 4096 0) ⌝ }
     ensures { λ r. ⌜ r ≡ floodedOf (hypermapOf (now (table .entry))) ⌝ }
@@ -144,12 +145,14 @@ pub fn flood_all(table: &[u16], marks: &mut [u16]) -> Flooded
     let mut faces: u32 = 0;
     let mut x: u16 = 1;
     while words::wide(x) <= n {
+        let mut next = x + 1;
         if is_fresh(table, marks, x) {
             faces += flood(table, x, 1, marks, &mut queue);
             lifts += component_lifts(table, x);
             components += 1;
+            next = skip_marked(marks, next, n);
         }
-        x += 1;
+        x = next;
     }
     Flooded {
         components: components,

@@ -7,7 +7,8 @@ ghost use Rattle.hypermap.specs.Hypermap.{orbitOf, orbits};
 ghost use Rattle.table.specs.Layout.{hypermapOf};
 ghost use Rattle.table.specs.Inner.{InTable, kindOf};
 ghost use Rattle.parts.specs.Marks.{orbitMarks};
-ghost use Rattle.parts.specs.Inner.{Marking, MarkingAt, HasMark, markAt, isFresh, Painted};
+ghost use Rattle.parts.specs.Inner.{Marking, MarkingAt, HasMark, markAt, isFresh, Painted, HasFour, fourMarked};
+ghost use Rattle.parts.specs.Inner.{Skipping, Skipped};
 use table::Orbit;
 use table::walk;
 use table::words;
@@ -49,6 +50,33 @@ pub fn is_fresh(table: &[u16], marks: &[u16], x: u16) -> bool
         return false;
     }
     0 < words::word(table, x, 0)
+}
+
+// Whether x and the three numbers behind it have marks.
+fn are_marked(marks: &[u16], x: u16) -> bool
+    requires { ⌜ HasFour (now marks) x ⌝ }
+    ensures { λ r. ⌜ r ≡ fourMarked (now (marks .entry)) x ⌝ }
+{
+    (mark_of(marks, x) != 0)
+        & (mark_of(marks, x + 1) != 0)
+        & (mark_of(marks, x + 2) != 0)
+        & (mark_of(marks, x + 3) != 0)
+}
+
+// A number from x on, with marks at all before it: four at a time, as long as that goes.
+pub fn skip_marked(marks: &[u16], x: u16, n: usize) -> u16
+    requires { ⌜ Skipping (now marks) x n ⌝ }
+    ensures { λ r. ⌜ Skipped (now (marks .entry)) x n r ⌝ }
+{
+    let mut at = x;
+    while words::wide(at) + 3 <= n {
+        if are_marked(marks, at) {
+            at += 4;
+        } else {
+            return at;
+        }
+    }
+    at
 }
 
 // Writes value at each dart of the orbit of x.

@@ -1,16 +1,15 @@
 use mathlib.Core.Path.{_≡_, refl, sym, ap, _∙_}
-use mathlib.Core.Logic.{⊎-elim}
 use Prim.Native.Nat.{_+_, _-_, _≤_}
 use native.Mathlib.Omega.{arith}
 use lib.ListN.{length}
 use borrow.Author.Needs.{needs}
 use Rattle.hypermap.specs.Hypermap.{Hypermap, faces, componentAt}
-use Rattle.table.specs.Layout.{hypermapOf}
+use Rattle.table.specs.Layout.{capacity, hypermapOf}
 use Rattle.parts.specs.Counts.{lifts}
 use Rattle.parts.specs.Inner.{floodedOf}
 use Rattle.parts.proofs.Marking.{passedMark, freshMarking, freshPart}
 use Rattle.parts.proofs.FloodingAll.{FloodingAll, allPass, allNone, allOther, allFresh, allFew, allCounts}
-use Rattle.parts.proofs.FloodingAll.{allPainted}
+use Rattle.parts.proofs.FloodingAll.{allPainted, allSkip}
 use Rattle.parts.proofs.count.flood_all.Statement.{statement}
 use Rattle.parts.proofs.count.flood_all.Tie as tie
 
@@ -61,6 +60,9 @@ module _ (c : tie.After-flood Inv-loop μ-loop) where
   abbrev m : Hypermap
   m = componentAt (hypermapOf (start l .args .table .now)) (l .loop .x)
 
+  below : l .loop .x ≤ capacity (start l .args .table .now)
+  below = omega arith
+
   few : (l .loop .lifts + lifts m ≤ 4096) × (l .loop .faces + faces m ≤ 4096)
   few =
       allFew _ (start l .pre .0) _ _ _ _ _
@@ -92,20 +94,43 @@ add-components c =
     let g = c .before .before .before .before in
     record { fits = omega (arith, l g .loop .inv .0 .passed .counted .few) }
 
+skip-marked-requires : tie.Need-skip-marked-requires Inv-loop μ-loop
+skip-marked-requires c κs =
+    let g = c .before .before .before .before .before in
+    let i = l g .loop .inv .0 .passed in
+    let n = l g .before .capacity-of .ensures in
+    let s = start (l g) .pre .0 in
+    record {
+      low = omega arith;
+      high = omega arith;
+      room = omega (arith, n, s .room, g .flood .kept .1 .1 .1 .0, i .size);
+      few = omega (arith, n, s .room);
+    }
+
+loop-less : tie.Need-loop-less Inv-loop μ-loop
+loop-less c = omega (arith, c .skip-marked .ensures .from)
+
 loop-again : tie.Need-loop-again Inv-loop μ-loop
 loop-again c =
+    let e = c .before .before in
+    let g = e .before .before .before .before in
+    let p = start (l g) .pre .0 in
+    let i = l g .loop .inv in (
+      allSkip _ p _ _ _ _ _ _ _ (l g .before .capacity-of .ensures) (c .skip-marked .ensures)
+          (allFresh _ p _ _ _ _ _ (i .0) (below g)
+          (sym (f g .is-fresh .ensures) ∙ g .before .before .before .if2 .taken) _ (g .flood .kept .1 .1 .1 .0)
+          (g .flood .ensures .1) _ _ (e .component-lifts .ensures) (g .flood .ensures .0)),
+      g .flood .kept .1 .1 .1 .1 .0 ∙ i .1,
+    )
+
+loop-again-2 : tie.Need-loop-again-2 Inv-loop μ-loop
+loop-again-2 c =
     let l = c .before .before .before .before .before in
-    let p = start l .pre .0 in
-    let i = l .loop .inv in
-    let e = sym (c .before .is-fresh .ensures) in
-    ⊎-elim
-    (λ k. rw (k .8, k .9, k .10, k .11, k .12) (
-      allFresh _ p _ _ _ _ _ (i .0) (omega arith) (e ∙ k .0 .taken) _ (k .3 .kept .1 .1 .1 .0) (k .3 .ensures .1) _ _
-          (k .7 .ensures) (k .3 .ensures .0),
-      k .3 .kept .1 .1 .1 .1 .0 ∙ i .1,
-    ))
-    (λ k. rw (k .1, k .2, k .3, k .4, k .5) (allOther _ p _ _ _ _ _ (i .0) (omega arith) (e ∙ k .0 .left), i .1))
-    (c .if2 .came)
+    let i = l .loop .inv in (
+      allOther _ (start l .pre .0) _ _ _ _ _ (i .0) (omega arith)
+          (sym (c .before .is-fresh .ensures) ∙ c .if2 .left),
+      i .1,
+    )
 
 same-length : tie.Need-same-length Inv-loop μ-loop
 same-length c =
@@ -122,6 +147,6 @@ returns c =
 pub flood-all-spec : {M : Type 1} → statement M
 flood-all-spec =
     tie.close
-    (tie.spec Inv-loop μ-loop (λ c κs. search needs) loop-holds (λ c κs. search needs) is-fresh-requires
-    slice-aggregate-flood flood-requires add-faces component-lifts-requires add-lifts add-components
-    (λ c. search needs) (λ c. search needs) loop-again same-length returns)
+    (tie.spec Inv-loop μ-loop (λ c κs. search needs) loop-holds (λ c κs. search needs) (λ c. search needs)
+    is-fresh-requires slice-aggregate-flood flood-requires add-faces component-lifts-requires add-lifts add-components
+    skip-marked-requires loop-less loop-again (λ c. search needs) loop-again-2 same-length returns)
