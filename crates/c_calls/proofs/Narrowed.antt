@@ -12,15 +12,15 @@ use Rattle.hypermap.specs.Hypermap.{componentAt}
 use Rattle.hypermap.proofs.Basics.Bools.{byCases, andLeft, andRight}
 use Rattle.table.specs.Refusals.{offTheTable, orElse, unless}
 use Rattle.table.specs.Layout.{Table, capacity, isNumber, hypermapOf}
-use Rattle.table.specs.Commands.{Command, puts, takesOut, joins, cuts, presenceFault, commandOn}
+use Rattle.table.specs.Commands.{Command, puts, takesOut, joins, cuts, presenceRefusal, commandOn}
 use Rattle.table.specs.declared.Orbit.{Orbit}
-use Rattle.table.proofs.Faults.{passed, fitting, refusedFirst, refused}
+use Rattle.table.proofs.Stages.{passed, fitting, refusedFirst, refused}
 use Rattle.parts.specs.declared.Part.{Part}
-use Rattle.kernel.specs.Calls.{maxCapacity, tableFault, callFault, callLeaves, questionFault, sameAnswer}
+use Rattle.kernel.specs.Calls.{maxCapacity, tableRefusal, callRefusal, callLeaves, questionRefusal, sameAnswer}
 use Rattle.kernel.specs.Calls.{componentReportOf, roundOf, roundAnswer, roundLeaves}
 use Rattle.kernel.specs.declared.Answer.{Answer}
 use Rattle.kernel.specs.declared.Totals.{Totals}
-use Rattle.kernel.proofs.Answering.{refusedAnswer, refusedReport, listFirst}
+use Rattle.kernel.proofs.Answering.{answerStopped, reportStopped, listFirst}
 use Rattle.kernel.proofs.Judging.{tablePassed}
 use Rattle.c_calls.specs.Narrowing.{narrowed}
 
@@ -51,31 +51,31 @@ module _ (w : Table) (room : capacity w ≤ maxCapacity) where
   sameNumbers (x ∷ xs) = cc (sameNumber x, sameNumbers xs)
 
 -- THE STAGES up to 3, of all darts named
-numberFault : Table → (named : List ℕ) → ℕ
-numberFault w xs = orElse (tableFault w) (unless (all (isNumber w) xs) offTheTable)
+numberRefusal : Table → (named : List ℕ) → ℕ
+numberRefusal w xs = orElse (tableRefusal w) (unless (all (isNumber w) xs) offTheTable)
 
-sameFault : (w : Table) (xs : List ℕ) → numberFault w (map narrowed xs) ≡ numberFault w xs
-unfolding numberFault orElse
-sameFault w xs =
-    byCases (eqb (tableFault w) 0)
-    (λ t. rw (t, sameNumbers w (tablePassed w (eqb-true (tableFault w) 0 t) .room) xs))
+sameRefusal : (w : Table) (xs : List ℕ) → numberRefusal w (map narrowed xs) ≡ numberRefusal w xs
+unfolding numberRefusal orElse
+sameRefusal w xs =
+    byCases (eqb (tableRefusal w) 0)
+    (λ t. rw (t, sameNumbers w (tablePassed w (eqb-true (tableRefusal w) 0 t) .room) xs))
     (λ t. rw t)
 
-passedStay : (w : Table) (xs : List ℕ) → numberFault w xs ≡ 0 → map narrowed xs ≡ xs
-unfolding numberFault
+passedStay : (w : Table) (xs : List ℕ) → numberRefusal w xs ≡ 0 → map narrowed xs ≡ xs
+unfolding numberRefusal
 passedStay w xs e =
-    let p = passed (tableFault w) (unless (all (isNumber w) xs) offTheTable) e in
+    let p = passed (tableRefusal w) (unless (all (isNumber w) xs) offTheTable) e in
     numbersStay w (tablePassed w (p .0) .room) xs (fitting (all (isNumber w) xs) offTheTable (omega arith) (p .1))
 
 -- so the darts stay as they are, or both lists are refused by the same number
 eitherWay :
     {P : Type 0} (w : Table) (xs : List ℕ) → (map narrowed xs ≡ xs → P) →
-    ((n : ℕ) → (n ≡ 0 → ⊥) → n ≡ numberFault w (map narrowed xs) → n ≡ numberFault w xs → P) → P
+    ((n : ℕ) → (n ≡ 0 → ⊥) → n ≡ numberRefusal w (map narrowed xs) → n ≡ numberRefusal w xs → P) → P
 eitherWay w xs stay stop =
-    let n = numberFault w xs in
+    let n = numberRefusal w xs in
     byCases (eqb n 0)
     (λ t. stay (passedStay w xs (eqb-true n 0 t)))
-    (λ t. stop n (eqb-false n 0 t) (sym (sameFault w xs)) refl)
+    (λ t. stop n (eqb-false n 0 t) (sym (sameRefusal w xs)) refl)
 
 -- what comes after a refusal has no part in it
 inTurn : (n m k : ℕ) → orElse n (orElse m k) ≡ orElse (orElse n m) k
@@ -110,34 +110,34 @@ commandStays (takesOut x) e = cc
 commandStays (joins k a b) e = cc
 commandStays (cuts k a b) e = cc
 
-faultStops : (w : Table) (c : Command) → (numberFault w (named c) ≡ 0 → ⊥) → callFault w c ≡ numberFault w (named c)
-unfolding numberFault callFault presenceFault all
-faultStops w (puts x) z = simp (inTurn, and-true, stopsAt _ (rw (and-true (isNumber w x)) at z))
-faultStops w (takesOut x) z = simp (inTurn, stopsAt _ z)
-faultStops w (joins k a b) z = simp (inTurn, stopsAt _ z)
-faultStops w (cuts k a b) z = simp (inTurn, stopsAt _ z)
+refusalStops : (w : Table) (c : Command) → (numberRefusal w (named c) ≡ 0 → ⊥) → callRefusal w c ≡ numberRefusal w (named c)
+unfolding numberRefusal callRefusal presenceRefusal all
+refusalStops w (puts x) z = simp (inTurn, and-true, stopsAt _ (rw (and-true (isNumber w x)) at z))
+refusalStops w (takesOut x) z = simp (inTurn, stopsAt _ z)
+refusalStops w (joins k a b) z = simp (inTurn, stopsAt _ z)
+refusalStops w (cuts k a b) z = simp (inTurn, stopsAt _ z)
 
 commandStops :
-    (w : Table) (c : Command) (n : ℕ) → (n ≡ 0 → ⊥) → n ≡ numberFault w (named c) →
-    (n ≡ callFault w c) × (w ≡ callLeaves w c)
+    (w : Table) (c : Command) (n : ℕ) → (n ≡ 0 → ⊥) → n ≡ numberRefusal w (named c) →
+    (n ≡ callRefusal w c) × (w ≡ callLeaves w c)
 unfolding callLeaves
 commandStops w c n z e =
-    let f = e ∙ sym (faultStops w c (λ q. z (e ∙ q))) in (f, refused (callFault w c) n (commandOn w c) w f z)
+    let f = e ∙ sym (refusalStops w c (λ q. z (e ∙ q))) in (f, refused (callRefusal w c) n (commandOn w c) w f z)
 
 pub narrowedCall :
-    (w v : Table) (c d : Command) (r : ℕ) → d ≡ narrowedCommand c → (r ≡ callFault w d) × (v ≡ callLeaves w d) →
-    (r ≡ callFault w c) × (v ≡ callLeaves w c)
+    (w v : Table) (c d : Command) (r : ℕ) → d ≡ narrowedCommand c → (r ≡ callRefusal w d) × (v ≡ callLeaves w d) →
+    (r ≡ callRefusal w c) × (v ≡ callLeaves w c)
 narrowedCall w v c d r e h =
     eitherWay w (named c)
     (λ s. rw (sym (commandStays c s) ∙ sym e) h)
     (λ n z f g.
     let p = commandStops w (narrowedCommand c) n z (rw (namedNarrowed c) at f) in
     let q = commandStops w c n z g in
-    (h .0 ∙ ap (callFault w) e ∙ sym (p .0) ∙ q .0, h .1 ∙ ap (callLeaves w) e ∙ sym (p .1) ∙ q .1))
+    (h .0 ∙ ap (callRefusal w) e ∙ sym (p .0) ∙ q .0, h .1 ∙ ap (callLeaves w) e ∙ sym (p .1) ∙ q .1))
 
 -- QUESTIONS
-questionStops : (w : Table) (xs : List ℕ) (n : ℕ) → (n ≡ 0 → ⊥) → n ≡ numberFault w xs → n ≡ questionFault w xs
-unfolding numberFault questionFault presenceFault
+questionStops : (w : Table) (xs : List ℕ) (n : ℕ) → (n ≡ 0 → ⊥) → n ≡ numberRefusal w xs → n ≡ questionRefusal w xs
+unfolding numberRefusal questionRefusal presenceRefusal
 questionStops w xs n z e = e ∙ sym (simp (inTurn, stopsAt _ (λ q. z (e ∙ q))))
 
 pub narrowedReport :
@@ -146,8 +146,8 @@ narrowedReport w x i r e h =
     eitherWay w (x ∷ [])
     (λ s. let t : x ≡ i = cc in rw t h)
     (λ n z f g.
-    let u = refusedReport _ (componentAt (hypermapOf w) i) n (questionStops w (i ∷ []) n z (cc)) z in
-    let v = refusedReport _ (componentAt (hypermapOf w) x) n (questionStops w (x ∷ []) n z g) z in
+    let u = reportStopped _ (componentAt (hypermapOf w) i) n (questionStops w (i ∷ []) n z (cc)) z in
+    let v = reportStopped _ (componentAt (hypermapOf w) x) n (questionStops w (x ∷ []) n z g) z in
     h ∙ sym u ∙ v)
 
 pub narrowedSame :
@@ -158,8 +158,8 @@ narrowedSame w p a b i j r e f h =
     eitherWay w (a ∷ b ∷ [])
     (λ s. cc)
     (λ n z k l.
-    let u = refusedAnswer n (questionFault w (i ∷ j ∷ [])) _ _ (questionStops w _ n z (cc)) z in
-    let v = refusedAnswer n (questionFault w (a ∷ b ∷ [])) _ _ (questionStops w _ n z l) z in
+    let u = answerStopped n (questionRefusal w (i ∷ j ∷ [])) _ _ (questionStops w _ n z (cc)) z in
+    let v = answerStopped n (questionRefusal w (a ∷ b ∷ [])) _ _ (questionStops w _ n z l) z in
     h ∙ sym u ∙ v)
 
 pub narrowedRound :
@@ -169,6 +169,6 @@ narrowedRound w k x i o v r e h =
     eitherWay w (x ∷ [])
     (λ s. let t : x ≡ i = cc in rw t h)
     (λ n z f g.
-    let p = listFirst (questionFault w (i ∷ [])) (roundOf w k i) o n (questionStops w _ n z (cc)) _ refl z in
-    let q = listFirst (questionFault w (x ∷ [])) (roundOf w k x) o n (questionStops w _ n z g) _ refl z in
+    let p = listFirst (questionRefusal w (i ∷ [])) (roundOf w k i) o n (questionStops w _ n z (cc)) _ refl z in
+    let q = listFirst (questionRefusal w (x ∷ [])) (roundOf w k x) o n (questionStops w _ n z g) _ refl z in
     (h .0 ∙ sym (p .0) ∙ q .0, h .1 ∙ sym (p .1) ∙ q .1))

@@ -7,9 +7,9 @@ ghost use Rattle.table.specs.Commands.{puts, takesOut, joins, cuts};
 ghost use Rattle.table.specs.declared.Orbit.the-variants as orbit;
 ghost use Rattle.parts.specs.declared.Part.the-variants as part;
 ghost use Rattle.tape.specs.Runs.{toldOf};
-ghost use Rattle.kernel.specs.Calls.{callFault, callLeaves, ringCallFault, ringCallLeaves, reportOf};
+ghost use Rattle.kernel.specs.Calls.{callRefusal, callLeaves, ringCallRefusal, ringCallLeaves, reportOf};
 ghost use Rattle.kernel.specs.Calls.{componentReportOf, sameAnswer, roundAnswer, roundLeaves, marksAnswer, marksLeaves};
-ghost use Rattle.kernel.specs.Tapes.{playOutcome, tapeAnswer, tapeLeaves, screenFault, screenLeaves};
+ghost use Rattle.kernel.specs.Tapes.{playOutcome, tapeAnswer, tapeLeaves, screenRefusal, screenLeaves};
 ghost use Rattle.kernel.specs.TapeNeeds.{needsAnswer};
 ghost use Rattle.c_calls.specs.Narrowing.{narrowed};
 use kernel::Answer;
@@ -31,7 +31,7 @@ fn narrow(x: u32) -> u16
 
 #[no_mangle]
 pub extern "C" fn lotskadi_put(table: &mut [u16], x: u32) -> u8
-    ensures { λ r. ⌜ r ≡ callFault (now (table .entry)) (puts x) ⌝ }
+    ensures { λ r. ⌜ r ≡ callRefusal (now (table .entry)) (puts x) ⌝ }
     ensures table { λ r. ⌜ now (table .exit) ≡ callLeaves (now (table .entry)) (puts x) ⌝ }
 {
     kernel::put(table, narrow(x))
@@ -39,7 +39,7 @@ pub extern "C" fn lotskadi_put(table: &mut [u16], x: u32) -> u8
 
 #[no_mangle]
 pub extern "C" fn lotskadi_take_out(table: &mut [u16], x: u32) -> u8
-    ensures { λ r. ⌜ r ≡ callFault (now (table .entry)) (takesOut x) ⌝ }
+    ensures { λ r. ⌜ r ≡ callRefusal (now (table .entry)) (takesOut x) ⌝ }
     ensures table { λ r. ⌜ now (table .exit) ≡ callLeaves (now (table .entry)) (takesOut x) ⌝ }
 {
     kernel::take_out(table, narrow(x))
@@ -47,7 +47,7 @@ pub extern "C" fn lotskadi_take_out(table: &mut [u16], x: u32) -> u8
 
 #[no_mangle]
 pub extern "C" fn lotskadi_edge_join(table: &mut [u16], a: u32, b: u32) -> u8
-    ensures { λ r. ⌜ r ≡ callFault (now (table .entry)) (joins edge a b) ⌝ }
+    ensures { λ r. ⌜ r ≡ callRefusal (now (table .entry)) (joins edge a b) ⌝ }
     ensures table { λ r. ⌜ now (table .exit) ≡ callLeaves (now (table .entry)) (joins edge a b) ⌝ }
 {
     kernel::join(table, Dimension::Edge, narrow(a), narrow(b))
@@ -55,7 +55,7 @@ pub extern "C" fn lotskadi_edge_join(table: &mut [u16], a: u32, b: u32) -> u8
 
 #[no_mangle]
 pub extern "C" fn lotskadi_vertex_join(table: &mut [u16], a: u32, b: u32) -> u8
-    ensures { λ r. ⌜ r ≡ callFault (now (table .entry)) (joins vertex a b) ⌝ }
+    ensures { λ r. ⌜ r ≡ callRefusal (now (table .entry)) (joins vertex a b) ⌝ }
     ensures table { λ r. ⌜ now (table .exit) ≡ callLeaves (now (table .entry)) (joins vertex a b) ⌝ }
 {
     kernel::join(table, Dimension::Vertex, narrow(a), narrow(b))
@@ -63,7 +63,7 @@ pub extern "C" fn lotskadi_vertex_join(table: &mut [u16], a: u32, b: u32) -> u8
 
 #[no_mangle]
 pub extern "C" fn lotskadi_edge_cut(table: &mut [u16], a: u32, b: u32) -> u8
-    ensures { λ r. ⌜ r ≡ callFault (now (table .entry)) (cuts edge a b) ⌝ }
+    ensures { λ r. ⌜ r ≡ callRefusal (now (table .entry)) (cuts edge a b) ⌝ }
     ensures table { λ r. ⌜ now (table .exit) ≡ callLeaves (now (table .entry)) (cuts edge a b) ⌝ }
 {
     kernel::cut(table, Dimension::Edge, narrow(a), narrow(b))
@@ -71,7 +71,7 @@ pub extern "C" fn lotskadi_edge_cut(table: &mut [u16], a: u32, b: u32) -> u8
 
 #[no_mangle]
 pub extern "C" fn lotskadi_vertex_cut(table: &mut [u16], a: u32, b: u32) -> u8
-    ensures { λ r. ⌜ r ≡ callFault (now (table .entry)) (cuts vertex a b) ⌝ }
+    ensures { λ r. ⌜ r ≡ callRefusal (now (table .entry)) (cuts vertex a b) ⌝ }
     ensures table { λ r. ⌜ now (table .exit) ≡ callLeaves (now (table .entry)) (cuts vertex a b) ⌝ }
 {
     kernel::cut(table, Dimension::Vertex, narrow(a), narrow(b))
@@ -79,7 +79,7 @@ pub extern "C" fn lotskadi_vertex_cut(table: &mut [u16], a: u32, b: u32) -> u8
 
 #[no_mangle]
 pub extern "C" fn lotskadi_ring_cut(table: &mut [u16], ring: &[u16]) -> u8
-    ensures { λ r. ⌜ r ≡ ringCallFault (now (table .entry)) (now (ring .entry)) ⌝ }
+    ensures { λ r. ⌜ r ≡ ringCallRefusal (now (table .entry)) (now (ring .entry)) ⌝ }
     ensures table { λ r. ⌜ now (table .exit) ≡ ringCallLeaves (now (table .entry)) (now (ring .entry)) ⌝ }
 {
     kernel::ring_cut(table, ring)
@@ -188,7 +188,7 @@ pub extern "C" fn lotskadi_write_tape(table: &[u16], out: &mut [u8]) -> Answer
 
 #[no_mangle]
 pub extern "C" fn lotskadi_screen(tape: &[u8], out: &mut [u8]) -> u8
-    ensures { λ r. ⌜ r ≡ screenFault (now (tape .entry)) (now (out .entry)) ⌝ }
+    ensures { λ r. ⌜ r ≡ screenRefusal (now (tape .entry)) (now (out .entry)) ⌝ }
     ensures out { λ r. ⌜ now (out .exit) ≡ screenLeaves (now (tape .entry)) (now (out .entry)) ⌝ }
 {
     kernel::screen(tape, out)

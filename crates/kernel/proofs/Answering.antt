@@ -12,68 +12,68 @@ use Rattle.hypermap.specs.Hypermap.{Hypermap}
 use Rattle.hypermap.proofs.Basics.Bools.{byCases}
 use Rattle.table.specs.Refusals.{orElse, unless, shortRoom}
 use Rattle.table.specs.Layout.{Table}
-use Rattle.table.specs.Commands.{Command, presenceFault, commandFault, commandOn, commandLeaves, leaves}
-use Rattle.table.proofs.Faults.{passed, refusedFirst, refusedSecond, refused}
+use Rattle.table.specs.Commands.{Command, presenceRefusal, commandRefusal, commandOn, commandLeaves, leaves}
+use Rattle.table.proofs.Stages.{passed, refusedFirst, refusedSecond, refused}
 use Rattle.parts.specs.Counts.{countsOf}
 use Rattle.parts.specs.declared.Counts.{Counts}
-use Rattle.rings.specs.Rings.{linksOf, ringFault, cutAlong, ringLeaves}
-use Rattle.kernel.specs.Calls.{refusedTotals, totalsOf, reportOn, ringCallFault, ringCallLeaves}
-use Rattle.kernel.specs.Calls.{tableFault, callFault, callLeaves, questionFault, refusalOf, answer, listFault}
+use Rattle.rings.specs.Rings.{linksOf, ringRefusal, cutAlong, ringLeaves}
+use Rattle.kernel.specs.Calls.{refusedTotals, totalsOf, reportOn, ringCallRefusal, ringCallLeaves}
+use Rattle.kernel.specs.Calls.{tableRefusal, callRefusal, callLeaves, questionRefusal, refusedAnswer, answer, listRefusal}
 use Rattle.kernel.specs.Calls.{listLeaves, listAnswer}
 use Rattle.kernel.specs.declared.Answer.{Answer}
 
 -- the table's refusal comes first, whatever comes after it
 judgedFirst :
-    (w v : Table) (n f : ℕ) → f ≡ tableFault w → (f ≡ 0 → ⊥) →
-    (f ≡ orElse (tableFault w) n) × (w ≡ leaves (orElse (tableFault w) n) v w)
-judgedFirst w v n f e z = let q = refusedFirst (tableFault w) n f e z in (q, refused _ f v w q z)
+    (w v : Table) (n f : ℕ) → f ≡ tableRefusal w → (f ≡ 0 → ⊥) →
+    (f ≡ orElse (tableRefusal w) n) × (w ≡ leaves (orElse (tableRefusal w) n) v w)
+judgedFirst w v n f e z = let q = refusedFirst (tableRefusal w) n f e z in (q, refused _ f v w q z)
 
 -- and else what comes after it answers
 judgedRest :
-    (w v u : Table) (n f r : ℕ) → f ≡ tableFault w → f ≡ 0 → (r ≡ n) × (u ≡ leaves n v w) →
-    (r ≡ orElse (tableFault w) n) × (u ≡ leaves (orElse (tableFault w) n) v w)
+    (w v u : Table) (n f r : ℕ) → f ≡ tableRefusal w → f ≡ 0 → (r ≡ n) × (u ≡ leaves n v w) →
+    (r ≡ orElse (tableRefusal w) n) × (u ≡ leaves (orElse (tableRefusal w) n) v w)
 judgedRest w v u n f r e z p =
-    let q = refusedSecond (tableFault w) n f n e z refl in
+    let q = refusedSecond (tableRefusal w) n f n e z refl in
     (p .0 ∙ q, p .1 ∙ ap (λ i. leaves i v w) q)
 
 -- COMMANDS
-module _ (w : Table) (c : Command) (f : ℕ) (e : f ≡ tableFault w) where
-  pub callFirst : (f ≡ 0 → ⊥) → (f ≡ callFault w c) × (w ≡ callLeaves w c)
-  unfolding callFault callLeaves
-  callFirst = judgedFirst w (commandOn w c) (commandFault w c) f e
+module _ (w : Table) (c : Command) (f : ℕ) (e : f ≡ tableRefusal w) where
+  pub callFirst : (f ≡ 0 → ⊥) → (f ≡ callRefusal w c) × (w ≡ callLeaves w c)
+  unfolding callRefusal callLeaves
+  callFirst = judgedFirst w (commandOn w c) (commandRefusal w c) f e
 
   pub callRest :
-      (r : ℕ) (v : Table) → f ≡ 0 → (r ≡ commandFault w c) × (v ≡ commandLeaves w c) →
-      (r ≡ callFault w c) × (v ≡ callLeaves w c)
-  unfolding callFault callLeaves
-  callRest r v = judgedRest w (commandOn w c) v (commandFault w c) f r e
+      (r : ℕ) (v : Table) → f ≡ 0 → (r ≡ commandRefusal w c) × (v ≡ commandLeaves w c) →
+      (r ≡ callRefusal w c) × (v ≡ callLeaves w c)
+  unfolding callRefusal callLeaves
+  callRest r v = judgedRest w (commandOn w c) v (commandRefusal w c) f r e
 
 -- A RING
-module _ (w : Table) (ws : List ℕ) (f : ℕ) (e : f ≡ tableFault w) where
-  pub ringFirst : (f ≡ 0 → ⊥) → (f ≡ ringCallFault w ws) × (w ≡ ringCallLeaves w ws)
-  unfolding ringCallFault ringCallLeaves
-  ringFirst = judgedFirst w (cutAlong (linksOf ws) w) (ringFault w ws) f e
+module _ (w : Table) (ws : List ℕ) (f : ℕ) (e : f ≡ tableRefusal w) where
+  pub ringFirst : (f ≡ 0 → ⊥) → (f ≡ ringCallRefusal w ws) × (w ≡ ringCallLeaves w ws)
+  unfolding ringCallRefusal ringCallLeaves
+  ringFirst = judgedFirst w (cutAlong (linksOf ws) w) (ringRefusal w ws) f e
 
   pub ringRest :
-      (r : ℕ) (v : Table) → f ≡ 0 → (r ≡ ringFault w ws) × (v ≡ ringLeaves w ws) →
-      (r ≡ ringCallFault w ws) × (v ≡ ringCallLeaves w ws)
-  unfolding ringCallFault ringCallLeaves ringLeaves
-  ringRest r v = judgedRest w (cutAlong (linksOf ws) w) v (ringFault w ws) f r e
+      (r : ℕ) (v : Table) → f ≡ 0 → (r ≡ ringRefusal w ws) × (v ≡ ringLeaves w ws) →
+      (r ≡ ringCallRefusal w ws) × (v ≡ ringCallLeaves w ws)
+  unfolding ringCallRefusal ringCallLeaves ringLeaves
+  ringRest r v = judgedRest w (cutAlong (linksOf ws) w) v (ringRefusal w ws) f r e
 
 -- QUESTIONS
-module _ (w : Table) (xs : List ℕ) (f : ℕ) (e : f ≡ tableFault w) where
-  pub questionFirst : (f ≡ 0 → ⊥) → f ≡ questionFault w xs
-  unfolding questionFault
-  questionFirst n = refusedFirst (tableFault w) (presenceFault w xs) f e n
+module _ (w : Table) (xs : List ℕ) (f : ℕ) (e : f ≡ tableRefusal w) where
+  pub questionFirst : (f ≡ 0 → ⊥) → f ≡ questionRefusal w xs
+  unfolding questionRefusal
+  questionFirst n = refusedFirst (tableRefusal w) (presenceRefusal w xs) f e n
 
-  pub questionRest : (r : ℕ) → f ≡ 0 → r ≡ presenceFault w xs → r ≡ questionFault w xs
-  unfolding questionFault
-  questionRest r z q = refusedSecond (tableFault w) (presenceFault w xs) f r e z q
+  pub questionRest : (r : ℕ) → f ≡ 0 → r ≡ presenceRefusal w xs → r ≡ questionRefusal w xs
+  unfolding questionRefusal
+  questionRest r z q = refusedSecond (tableRefusal w) (presenceRefusal w xs) f r e z q
 
 -- a refused answer, and one that is not
-pub refusedAnswer : (f n : ℕ) (t : Bool) (k : ℕ) → f ≡ n → (f ≡ 0 → ⊥) → refusalOf f ≡ answer n t k
+pub answerStopped : (f n : ℕ) (t : Bool) (k : ℕ) → f ≡ n → (f ≡ 0 → ⊥) → refusedAnswer f ≡ answer n t k
 unfolding answer
-refusedAnswer f n t k e z = rw (ne-eqb n 0 (λ q. z (e ∙ q))) (ap refusalOf e)
+answerStopped f n t k e z = rw (ne-eqb n 0 (λ q. z (e ∙ q))) (ap refusedAnswer e)
 
 pub givenAnswer :
     (f n : ℕ) (t : Bool) (k : ℕ) → f ≡ n → f ≡ 0 → record { number = 0; yes = t; count = k } ≡ answer n t k
@@ -85,9 +85,9 @@ unfolding answer
 answerNumber n t k = byCases (eqb n 0) (λ e. rw e (sym (eqb-true n 0 e))) (λ e. rw e)
 
 -- a refused report, and one that is not
-pub refusedReport : (n : ℕ) (m : Hypermap) (f : ℕ) → f ≡ n → (f ≡ 0 → ⊥) → refusedTotals f ≡ reportOn n m
+pub reportStopped : (n : ℕ) (m : Hypermap) (f : ℕ) → f ≡ n → (f ≡ 0 → ⊥) → refusedTotals f ≡ reportOn n m
 unfolding reportOn
-refusedReport n m f e z = rw (ne-eqb n 0 (λ q. z (e ∙ q))) (ap refusedTotals e)
+reportStopped n m f e z = rw (ne-eqb n 0 (λ q. z (e ∙ q))) (ap refusedTotals e)
 
 pub givenReport :
     (n : ℕ) (m : Hypermap) (f : ℕ) (c : Counts) → f ≡ n → f ≡ 0 → c ≡ countsOf m → totalsOf c ≡ reportOn n m
@@ -95,17 +95,17 @@ unfolding reportOn
 givenReport n m f c e z q = rw (eq-eqb n 0 (sym e ∙ z)) (ap totalsOf q)
 
 -- LISTS: what an accepted one has passed
-pub listPassed : (n : ℕ) (xs o : List ℕ) → listAnswer n xs o .number ≡ 0 → (n ≡ 0) × (listFault n xs o ≡ 0)
-unfolding listAnswer listFault
+pub listPassed : (n : ℕ) (xs o : List ℕ) → listAnswer n xs o .number ≡ 0 → (n ≡ 0) × (listRefusal n xs o ≡ 0)
+unfolding listAnswer listRefusal
 listPassed n xs o e =
-    let z = sym (answerNumber (listFault n xs o) false (length xs)) ∙ e in
+    let z = sym (answerNumber (listRefusal n xs o) false (length xs)) ∙ e in
     (passed n (unless (leb (length xs) (length o)) shortRoom) z .0, z)
 
 -- with room for the list, only what comes before the room is refused
 pub listRoom : (n : ℕ) (xs o : List ℕ) → (n ≡ 0 → length xs ≤ length o) → listAnswer n xs o .number ≡ n
-unfolding listAnswer listFault unless
+unfolding listAnswer listRefusal unless
 listRoom n xs o h =
-    answerNumber (listFault n xs o) false (length xs) ∙
+    answerNumber (listRefusal n xs o) false (length xs) ∙
     byCases (eqb n 0)
     (λ t. let z = eqb-true n 0 t in sym (refusedSecond n _ n n refl z (rw (le-leb (length xs) (length o) (h z)) z)))
     (λ t. sym (refusedFirst n _ n refl (eqb-false n 0 t)))
@@ -113,32 +113,32 @@ listRoom n xs o h =
 -- refused before the room is judged, for want of room, or written
 module _ (n : ℕ) (xs o : List ℕ) (f : ℕ) (e : f ≡ n) where
   pub listFirst :
-      (r : Answer) → r ≡ refusalOf f → (f ≡ 0 → ⊥) → (r ≡ listAnswer n xs o) × (o ≡ listLeaves n xs o)
-  unfolding listAnswer listLeaves listFault
+      (r : Answer) → r ≡ refusedAnswer f → (f ≡ 0 → ⊥) → (r ≡ listAnswer n xs o) × (o ≡ listLeaves n xs o)
+  unfolding listAnswer listLeaves listRefusal
   listFirst r i z =
       let q = refusedFirst n (unless (leb (length xs) (length o)) shortRoom) f e z in
-      (i ∙ refusedAnswer f (listFault n xs o) false (length xs) q z, rw (ne-eqb (listFault n xs o) 0 (λ p. z (q ∙ p))))
+      (i ∙ answerStopped f (listRefusal n xs o) false (length xs) q z, rw (ne-eqb (listRefusal n xs o) 0 (λ p. z (q ∙ p))))
 
   pub listShort :
-      (r : Answer) → r ≡ refusalOf shortRoom → f ≡ 0 → length o < length xs →
+      (r : Answer) → r ≡ refusedAnswer shortRoom → f ≡ 0 → length o < length xs →
       (r ≡ listAnswer n xs o) × (o ≡ listLeaves n xs o)
-  unfolding listAnswer listLeaves listFault unless
+  unfolding listAnswer listLeaves listRefusal unless
   listShort r i z l =
       let s : shortRoom ≡ unless (leb (length xs) (length o)) shortRoom = rw (lt-leb (length xs) (length o) l) in
       let q = refusedSecond n (unless (leb (length xs) (length o)) shortRoom) f shortRoom e z s in
       let p : shortRoom ≡ 0 → ⊥ = λ j. absurd (omega arith) in (
-        i ∙ refusedAnswer shortRoom (listFault n xs o) false (length xs) q p,
-        rw (ne-eqb (listFault n xs o) 0 (λ j. p (q ∙ j))),
+        i ∙ answerStopped shortRoom (listRefusal n xs o) false (length xs) q p,
+        rw (ne-eqb (listRefusal n xs o) 0 (λ j. p (q ∙ j))),
       )
 
   pub listWritten :
       (k : ℕ) (v : List ℕ) → f ≡ 0 → length xs ≤ length o → k ≡ length xs → v ≡ xs ++ drop (length xs) o →
       (record { number = 0; yes = false; count = k } ≡ listAnswer n xs o) × (v ≡ listLeaves n xs o)
-  unfolding listAnswer listLeaves listFault unless
+  unfolding listAnswer listLeaves listRefusal unless
   listWritten k v z l c d =
       let s : 0 ≡ unless (leb (length xs) (length o)) shortRoom = rw (le-leb (length xs) (length o) l) in
       let q = refusedSecond n (unless (leb (length xs) (length o)) shortRoom) f 0 e z s in
-      let a = givenAnswer 0 (listFault n xs o) false (length xs) q refl in (
+      let a = givenAnswer 0 (listRefusal n xs o) false (length xs) q refl in (
         ap (λ j. record { number = 0; yes = false; count = j }) c ∙ a,
-        d ∙ rw (eq-eqb (listFault n xs o) 0 (sym q)),
+        d ∙ rw (eq-eqb (listRefusal n xs o) 0 (sym q)),
       )

@@ -13,21 +13,21 @@ use Rattle.hypermap.proofs.Basics.Sums.{sumExt, sumOfIntegersExt}
 use Rattle.hypermap.proofs.Laws.Components.{componentLaw}
 use Rattle.hypermap.proofs.Laws.ComponentGenus.{componentShared, representativeDart, componentGenusLaw}
 use Rattle.table.specs.Layout.{Table, hypermapOf}
-use Rattle.table.proofs.Soundness.{memPresent, soundHypermap}
+use Rattle.table.proofs.Holding.{memPresent, tableHypermap}
 use Rattle.parts.specs.Counts.{lifts}
 use Rattle.parts.specs.Sharing.{isSame}
 use Rattle.parts.specs.declared.Part.the-variants.{Component}
 use Rattle.parts.proofs.Lifting.{liftsByDarts, liftsAddUp}
-use Rattle.kernel.specs.Calls.{tableFault, reportOn, questionFault, componentReportOf}
+use Rattle.kernel.specs.Calls.{tableRefusal, reportOn, questionRefusal, componentReportOf}
 use Rattle.kernel.specs.ComponentReports.{IsOfOneComponent, sumOfReports, ReportsAddUp, ComponentPromise}
 use Rattle.kernel.specs.declared.Totals.{Totals}
 use Rattle.kernel.proofs.Judging.{Reported, tablePassed, planReported, reportPassed, dartReady, dartFits}
 use Rattle.kernel.proofs.Judging.{questionTable, componentPassed, componentReported}
 
 -- ONE
-module _ (w : Table) (x : ℕ) (z : questionFault w (x ∷ []) ≡ 0) where
+module _ (w : Table) (x : ℕ) (z : questionRefusal w (x ∷ []) ≡ 0) where
   wf : isHypermap (hypermapOf w) ≡ true
-  wf = soundHypermap w (dartReady w x z .sound)
+  wf = tableHypermap w (dartReady w x z .hypermap)
 
   dart : Mem x (hypermapOf w .darts)
   dart = memPresent w x ∙ dartReady w x z .here
@@ -40,7 +40,7 @@ module _ (w : Table) (x : ℕ) (z : questionFault w (x ∷ []) ≡ 0) where
       let i = rw memPresent at (componentLaw (hypermapOf w) wf .1 .within x y dart t) in
       let f = dartFits w y (questionTable w (x ∷ []) z) i in
       ap (λ n. reportOn n (componentAt (hypermapOf w) y)) (f ∙ sym z) ∙
-      ap (reportOn (questionFault w (x ∷ []))) (componentShared (hypermapOf w) wf x y dart t)
+      ap (reportOn (questionRefusal w (x ∷ []))) (componentShared (hypermapOf w) wf x y dart t)
 
   oneComponent : IsOfOneComponent (componentReportOf w x)
   oneComponent =
@@ -52,12 +52,12 @@ module _ (w : Table) (x : ℕ) (z : questionFault w (x ∷ []) ≡ 0) where
       }
 
 -- ALL
-module _ (w : Table) (t : tableFault w ≡ 0) where
+module _ (w : Table) (t : tableRefusal w ≡ 0) where
   abbrev m : Hypermap
   m = hypermapOf w
 
   wfAll : isHypermap m ≡ true
-  wfAll = soundHypermap w (tablePassed w t .sound)
+  wfAll = tableHypermap w (tablePassed w t .hypermap)
 
   sums : AddsUp m
   sums = componentGenusLaw m wfAll .1

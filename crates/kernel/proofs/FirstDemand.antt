@@ -15,18 +15,18 @@ use Rattle.hypermap.proofs.Basics.Bools.{byCases}
 use Rattle.table.specs.Refusals.{shortRoom}
 use Rattle.table.specs.Layout.{Table, wordsPerDart}
 use Rattle.table.specs.Commands.{commandOn, leaves}
-use Rattle.table.proofs.Faults.{refused}
-use Rattle.table.proofs.Soundness.{low, high}
+use Rattle.table.proofs.Stages.{refused}
+use Rattle.table.proofs.Holding.{low, high}
 use Rattle.parts.specs.declared.Part.the-variants.{Edge}
 use Rattle.rings.specs.Rings.{linksOf, cutAlong}
 use Rattle.tape.specs.Tapes.{contentsOf}
 use Rattle.tape.specs.Runs.{stopped}
 use Rattle.tape.specs.Laws.{IsRun}
 use Rattle.tape.proofs.Running.{runLaw}
-use Rattle.kernel.specs.Calls.{callFault, callLeaves, ringCallFault, ringCallLeaves, reportOn}
-use Rattle.kernel.specs.Calls.{questionFault, answer, sameAnswer, listFault, listLeaves}
+use Rattle.kernel.specs.Calls.{callRefusal, callLeaves, ringCallRefusal, ringCallLeaves, reportOn}
+use Rattle.kernel.specs.Calls.{questionRefusal, answer, sameAnswer, listRefusal, listLeaves}
 use Rattle.kernel.specs.Calls.{listAnswer, lookOf}
-use Rattle.kernel.specs.Tapes.{tapeFault, playFault, playOutcome, screenFault, screenLeaves}
+use Rattle.kernel.specs.Tapes.{tapeRefusal, playRefusal, playOutcome, screenRefusal, screenLeaves}
 use Rattle.kernel.specs.Demands.{Refuses, RefusesAnswer, RefusesReport, FirstDemand}
 use Rattle.kernel.proofs.Answering.{answerNumber}
 use Rattle.kernel.proofs.Judging.{dartsReady}
@@ -47,10 +47,10 @@ answerRefuses n t k f =
 listRefuses :
     (n : ℕ) (xs o : List ℕ) {ns : List ℕ} → One n ns → among shortRoom ns ≡ true →
     RefusesAnswer (listAnswer n xs o) ns × ((listAnswer n xs o .number ≡ 0 → ⊥) → listLeaves n xs o ≡ o)
-unfolding listAnswer listLeaves listFault
+unfolding listAnswer listLeaves listRefusal
 listRefuses n xs o f m = (
-  answerRefuses (listFault n xs o) _ _ (orElseOne f (unlessOne _ _ m)),
-  λ z. rw (ne-eqb (listFault n xs o) 0 (λ e. z (answerNumber (listFault n xs o) _ _ ∙ e))),
+  answerRefuses (listRefusal n xs o) _ _ (orElseOne f (unlessOne _ _ m)),
+  λ z. rw (ne-eqb (listRefusal n xs o) 0 (λ e. z (answerNumber (listRefusal n xs o) _ _ ∙ e))),
 )
 
 reportRefuses : (n : ℕ) (m : Hypermap) {ns : List ℕ} → One n ns → RefusesReport (reportOn n m) ns
@@ -61,18 +61,18 @@ reportRefuses n m f =
     (λ e. rw e (record { one = f .one; zeros = λ z. refl }))
 
 -- A LOOK
-fourWords : (w : Table) (x : ℕ) → questionFault w (x ∷ x ∷ []) ≡ 0 → length (lookOf w x) ≡ wordsPerDart
+fourWords : (w : Table) (x : ℕ) → questionRefusal w (x ∷ x ∷ []) ≡ 0 → length (lookOf w x) ≡ wordsPerDart
 unfolding lookOf
 fourWords w x e =
     let r = dartsReady w x x e in
     let l = low w x (r .both .first) in
     let h = high w x (r .both .first) in
-    rw (eq-eqb (questionFault w (x ∷ x ∷ [])) 0 e) (simp (length-take, length-drop) (omega arith))
+    rw (eq-eqb (questionRefusal w (x ∷ x ∷ [])) 0 e) (simp (length-take, length-drop) (omega arith))
 
 look : (w : Table) (x : ℕ) → (lookOf w x ≡ []) ↔ (sameAnswer w Edge x x .number ≡ 0 → ⊥)
 unfolding sameAnswer lookOf
 look w x =
-    let f = questionFault w (x ∷ x ∷ []) in (
+    let f = questionRefusal w (x ∷ x ∷ []) in (
       λ e z. let k = sym (fourWords w x (sym (answerNumber f _ _) ∙ z)) ∙ ap length e in omega arith,
       λ z. rw (ne-eqb f 0 (λ e. z (answerNumber f _ _ ∙ e))),
     )
@@ -80,20 +80,20 @@ look w x =
 -- A RUN
 played :
     (w : Table) (tape : List ℕ) →
-    ((playFault w tape ≡ 0 → ⊥) → playOutcome w tape ≡ stopped (playFault w tape) w) ×
-    (playFault w tape ≡ 0 → IsRun w (contentsOf tape .commands) (contentsOf tape .refusal) (playOutcome w tape))
+    ((playRefusal w tape ≡ 0 → ⊥) → playOutcome w tape ≡ stopped (playRefusal w tape) w) ×
+    (playRefusal w tape ≡ 0 → IsRun w (contentsOf tape .commands) (contentsOf tape .refusal) (playOutcome w tape))
 unfolding playOutcome
 played w tape = (
-  λ z. rw (ne-eqb (playFault w tape) 0 z),
-  λ e. rw (eq-eqb (playFault w tape) 0 e) (runLaw w (contentsOf tape .commands) (contentsOf tape .refusal)),
+  λ z. rw (ne-eqb (playRefusal w tape) 0 z),
+  λ e. rw (eq-eqb (playRefusal w tape) 0 e) (runLaw w (contentsOf tape .commands) (contentsOf tape .refusal)),
 )
 
 -- DEMAND 1, whole
 pub firstDemand : FirstDemand
-unfolding among callLeaves ringCallLeaves questionFault sameAnswer screenFault tapeFault screenLeaves leaves
+unfolding among callLeaves ringCallLeaves questionRefusal sameAnswer screenRefusal tapeRefusal screenLeaves leaves
 firstDemand = record {
-  commands = λ w c. refuses (callFault w c) (commandOn w c) w (commandOne w c);
-  rings = λ w ws. refuses (ringCallFault w ws) (cutAlong (linksOf ws) w) w (ringOne w ws);
+  commands = λ w c. refuses (callRefusal w c) (commandOn w c) w (commandOne w c);
+  rings = λ w ws. refuses (ringCallRefusal w ws) (cutAlong (linksOf ws) w) w (ringOne w ws);
   report = λ w. reportRefuses _ _ (tableOne w refl refl);
   componentReport = λ w x. reportRefuses _ _ (orElseOne (tableOne w refl refl) (presenceOne w _ refl refl));
   same = λ w p a b. answerRefuses _ _ _ (orElseOne (tableOne w refl refl) (presenceOne w _ refl refl));

@@ -13,21 +13,21 @@ use Rattle.hypermap.specs.Hypermap.{Hypermap, componentOf, edges, vertices, fac
 use Rattle.hypermap.specs.Hypermap.{componentAt}
 use Rattle.hypermap.proofs.Basics.Bools.{byCases, andLeft, andRight}
 use Rattle.table.specs.Refusals.{wrongSize, bentTable, orElse, unless}
-use Rattle.table.specs.Layout.{Table, wordsPerDart, capacity, isPresent, isSound, hypermapOf}
-use Rattle.table.specs.Commands.{Command, presenceFault, commandFault, commandOn, leaves}
-use Rattle.table.proofs.Faults.{passed, fitting, onePresent, bothPresent, presentFits}
+use Rattle.table.specs.Layout.{Table, wordsPerDart, capacity, isPresent, holdsHypermap, hypermapOf}
+use Rattle.table.specs.Commands.{Command, presenceRefusal, commandRefusal, commandOn, leaves}
+use Rattle.table.proofs.Stages.{passed, fitting, onePresent, bothPresent, presentFits}
 use Rattle.parts.specs.Counts.{lifts, countsOf}
-use Rattle.parts.specs.Inner.{CountedAtBoth}
+use Rattle.parts.specs.Inner.{WithinCapacityAtBoth}
 use Rattle.parts.specs.Marks.{componentMarks}
 use Rattle.parts.proofs.LeastMarks.{marksLength}
-use Rattle.kernel.specs.Calls.{maxCapacity, sizeFits, tableFault, callFault, callLeaves, reportOn, reportOf}
-use Rattle.kernel.specs.Calls.{questionFault, componentReportOf}
+use Rattle.kernel.specs.Calls.{maxCapacity, sizeFits, tableRefusal, callRefusal, callLeaves, reportOn, reportOf}
+use Rattle.kernel.specs.Calls.{questionRefusal, componentReportOf}
 use Rattle.kernel.specs.declared.Totals.{Totals}
 
 -- THE TABLE
 pub record Passed (w : Table) : Type 0 where
   pub size : sizeFits w ≡ true
-  pub sound : isSound w ≡ true
+  pub hypermap : holdsHypermap w ≡ true
   pub room : capacity w ≤ maxCapacity
 
 pub sizeRoom : (w : Table) → sizeFits w ≡ true → capacity w ≤ maxCapacity
@@ -37,12 +37,12 @@ sizeRoom w t =
     (andRight (eqb (length w % wordsPerDart) 0) (leb (length w) (wordsPerDart * maxCapacity)) t) in
     omega arith
 
-pub tablePassed : (w : Table) → tableFault w ≡ 0 → Passed w
-unfolding tableFault
+pub tablePassed : (w : Table) → tableRefusal w ≡ 0 → Passed w
+unfolding tableRefusal
 tablePassed w e =
-    let p = passed (unless (sizeFits w) wrongSize) (unless (isSound w) bentTable) e in
+    let p = passed (unless (sizeFits w) wrongSize) (unless (holdsHypermap w) bentTable) e in
     let s = fitting (sizeFits w) wrongSize (omega arith) (p .0) in
-    record { size = s; sound = fitting (isSound w) bentTable (omega arith) (p .1); room = sizeRoom w s }
+    record { size = s; hypermap = fitting (holdsHypermap w) bentTable (omega arith) (p .1); room = sizeRoom w s }
 
 pub wholeWords : (w : Table) → sizeFits w ≡ true → length w ≡ wordsPerDart * capacity w
 unfolding sizeFits
@@ -51,8 +51,8 @@ wholeWords w t =
     (andLeft (eqb (length w % wordsPerDart) 0) (leb (length w) (wordsPerDart * maxCapacity)) t) in
     omega arith
 
-pub tableFits : (w : Table) → sizeFits w ≡ true → isSound w ≡ true → tableFault w ≡ 0
-unfolding tableFault orElse unless
+pub tableFits : (w : Table) → sizeFits w ≡ true → holdsHypermap w ≡ true → tableRefusal w ≡ 0
+unfolding tableRefusal orElse unless
 tableFits w s t = rw (s, t)
 
 pub sizeStays : (v w : Table) → length v ≡ length w → sizeFits w ≡ true → sizeFits v ≡ true
@@ -91,24 +91,24 @@ pub reportNumber : (n : ℕ) (m : Hypermap) → reportOn n m .number ≡ n
 unfolding reportOn
 reportNumber n m = byCases (eqb n 0) (λ t. rw t (sym (eqb-true n 0 t))) (λ t. rw t)
 
-pub planReported : (w : Table) → tableFault w ≡ 0 → Reported (reportOf w) (hypermapOf w)
-planReported w e = reported (tableFault w) (hypermapOf w) e
+pub planReported : (w : Table) → tableRefusal w ≡ 0 → Reported (reportOf w) (hypermapOf w)
+planReported w e = reported (tableRefusal w) (hypermapOf w) e
 
-pub reportPassed : (w : Table) → reportOf w .number ≡ 0 → tableFault w ≡ 0
-reportPassed w e = sym (reportNumber (tableFault w) (hypermapOf w)) ∙ e
+pub reportPassed : (w : Table) → reportOf w .number ≡ 0 → tableRefusal w ≡ 0
+reportPassed w e = sym (reportNumber (tableRefusal w) (hypermapOf w)) ∙ e
 
 -- A COMMAND
-pub callPassed : (w : Table) (c : Command) → callFault w c ≡ 0 → (tableFault w ≡ 0) × (commandFault w c ≡ 0)
-unfolding callFault
-callPassed w c e = passed (tableFault w) (commandFault w c) e
+pub callPassed : (w : Table) (c : Command) → callRefusal w c ≡ 0 → (tableRefusal w ≡ 0) × (commandRefusal w c ≡ 0)
+unfolding callRefusal
+callPassed w c e = passed (tableRefusal w) (commandRefusal w c) e
 
-pub callFits : (w : Table) (c : Command) → tableFault w ≡ 0 → commandFault w c ≡ 0 → callFault w c ≡ 0
-unfolding callFault orElse
+pub callFits : (w : Table) (c : Command) → tableRefusal w ≡ 0 → commandRefusal w c ≡ 0 → callRefusal w c ≡ 0
+unfolding callRefusal orElse
 callFits w c e f = rw (e, f)
 
-pub acceptedLeaves : (w : Table) (c : Command) → callFault w c ≡ 0 → callLeaves w c ≡ commandOn w c
+pub acceptedLeaves : (w : Table) (c : Command) → callRefusal w c ≡ 0 → callLeaves w c ≡ commandOn w c
 unfolding callLeaves leaves
-acceptedLeaves w c e = rw (eq-eqb (callFault w c) 0 e)
+acceptedLeaves w c e = rw (eq-eqb (callRefusal w c) 0 e)
 
 -- as many marks as the capacity
 pub marksMany : (w : Table) (n : ℕ) → n ≡ capacity w → n ≡ length (componentMarks w)
@@ -116,38 +116,38 @@ marksMany w n e = e ∙ sym (marksLength w (componentOf (hypermapOf w)))
 
 -- A QUESTION about one dart and about two
 pub record Ready (w : Table) (x : ℕ) : Type 0 where
-  pub sound : isSound w ≡ true
+  pub hypermap : holdsHypermap w ≡ true
   pub room : capacity w ≤ maxCapacity
   pub here : isPresent w x ≡ true
 
-pub questionTable : (w : Table) (xs : List ℕ) → questionFault w xs ≡ 0 → tableFault w ≡ 0
-unfolding questionFault
-questionTable w xs e = passed (tableFault w) (presenceFault w xs) e .0
+pub questionTable : (w : Table) (xs : List ℕ) → questionRefusal w xs ≡ 0 → tableRefusal w ≡ 0
+unfolding questionRefusal
+questionTable w xs e = passed (tableRefusal w) (presenceRefusal w xs) e .0
 
-pub dartReady : (w : Table) (x : ℕ) → questionFault w (x ∷ []) ≡ 0 → Ready w x
-unfolding questionFault
+pub dartReady : (w : Table) (x : ℕ) → questionRefusal w (x ∷ []) ≡ 0 → Ready w x
+unfolding questionRefusal
 dartReady w x e =
-    let p = passed (tableFault w) (presenceFault w (x ∷ [])) e in
+    let p = passed (tableRefusal w) (presenceRefusal w (x ∷ [])) e in
     let t = tablePassed w (p .0) in
-    record { sound = t .sound; room = t .room; here = onePresent w x (p .1) }
+    record { hypermap = t .hypermap; room = t .room; here = onePresent w x (p .1) }
 
-pub dartFits : (w : Table) (x : ℕ) → tableFault w ≡ 0 → isPresent w x ≡ true → questionFault w (x ∷ []) ≡ 0
-unfolding questionFault orElse all
+pub dartFits : (w : Table) (x : ℕ) → tableRefusal w ≡ 0 → isPresent w x ≡ true → questionRefusal w (x ∷ []) ≡ 0
+unfolding questionRefusal orElse all
 dartFits w x e p = rw (e, presentFits w (x ∷ []) (rw p))
 
 -- a report of the component of x
-pub componentPassed : (w : Table) (x : ℕ) → componentReportOf w x .number ≡ 0 → questionFault w (x ∷ []) ≡ 0
-componentPassed w x e = sym (reportNumber (questionFault w (x ∷ [])) (componentAt (hypermapOf w) x)) ∙ e
+pub componentPassed : (w : Table) (x : ℕ) → componentReportOf w x .number ≡ 0 → questionRefusal w (x ∷ []) ≡ 0
+componentPassed w x e = sym (reportNumber (questionRefusal w (x ∷ [])) (componentAt (hypermapOf w) x)) ∙ e
 
 pub componentReported :
-    (w : Table) (x : ℕ) → questionFault w (x ∷ []) ≡ 0 →
+    (w : Table) (x : ℕ) → questionRefusal w (x ∷ []) ≡ 0 →
     Reported (componentReportOf w x) (componentAt (hypermapOf w) x)
-componentReported w x e = reported (questionFault w (x ∷ [])) (componentAt (hypermapOf w) x) e
+componentReported w x e = reported (questionRefusal w (x ∷ [])) (componentAt (hypermapOf w) x) e
 
-pub dartsReady : (w : Table) (a b : ℕ) → questionFault w (a ∷ b ∷ []) ≡ 0 → CountedAtBoth w a b
-unfolding questionFault
+pub dartsReady : (w : Table) (a b : ℕ) → questionRefusal w (a ∷ b ∷ []) ≡ 0 → WithinCapacityAtBoth w a b
+unfolding questionRefusal
 dartsReady w a b e =
-    let p = passed (tableFault w) (presenceFault w (a ∷ b ∷ [])) e in
+    let p = passed (tableRefusal w) (presenceRefusal w (a ∷ b ∷ [])) e in
     let t = tablePassed w (p .0) in
     let q = bothPresent w a b (p .1) in
-    record { both = record { sound = t .sound; first = q .0; second = q .1 }; room = t .room }
+    record { both = record { hypermap = t .hypermap; first = q .0; second = q .1 }; room = t .room }

@@ -4,23 +4,23 @@ use Rattle.hypermap.specs.Lists.{all, among, keep, leastOf}
 use Rattle.hypermap.specs.Hypermap.{walkFrom, spread, spreadBy}
 use Rattle.hypermap.specs.Ring.{allLinks, noTwo, lastOf, continuity}
 use Rattle.table.specs.Refusals.{orElse, unless}
-use Rattle.table.specs.Layout.{upFrom, wordAt, isPresent, isAbsent, isLinked, dartFits, isSound}
-use Rattle.table.specs.Commands.{withWord, withAll, swapped, presenceFault, isTogether, leaves}
+use Rattle.table.specs.Layout.{upFrom, wordAt, isPresent, isAbsent, wordsLinked, dartFits, holdsHypermap}
+use Rattle.table.specs.Commands.{withWord, withAll, swapped, presenceRefusal, isTogether, leaves}
 use Rattle.parts.specs.Marks.{markOf, marksOf}
 use Rattle.parts.specs.Counts.{countsOf}
-use Rattle.rings.specs.Rings.{linksOf, isList, pairsTogether, pathCloses, conditionFault, ringFault, cutAlong}
+use Rattle.rings.specs.Rings.{linksOf, isList, pairsTogether, pathCloses, conditionRefusal, ringRefusal, cutAlong}
 use Rattle.tape.specs.Tapes.{tapeBytes}
 use Rattle.writer.specs.Canonical.{orbitJoins, joinsOver, putsOf, tapeOf}
-use Rattle.kernel.specs.Calls.{sizeFits, tableFault, callFault, callLeaves, ringCallFault, ringCallLeaves}
+use Rattle.kernel.specs.Calls.{sizeFits, tableRefusal, callRefusal, callLeaves, ringCallRefusal, ringCallLeaves}
 use Rattle.kernel.specs.Calls.{reportOn}
 use Rattle.kernel.specs.Tapes.{emptyTable}
 use Rattle.kernel.specs.Plans.{PlansLaw, sameNumbers, facesFit, rowFits, allFit, rows}
 
 pub plansLaw : PlansLaw
 unfolding all among keep leastOf walkFrom spread spreadBy allLinks noTwo lastOf continuity orElse unless upFrom wordAt
-    isPresent isAbsent isLinked dartFits isSound withWord withAll swapped presenceFault isTogether leaves markOf marksOf
-    countsOf linksOf isList pairsTogether pathCloses conditionFault ringFault cutAlong tapeBytes orbitJoins joinsOver
-    putsOf tapeOf sizeFits tableFault callFault callLeaves ringCallFault ringCallLeaves reportOn emptyTable sameNumbers
+    isPresent isAbsent wordsLinked dartFits holdsHypermap withWord withAll swapped presenceRefusal isTogether leaves markOf marksOf
+    countsOf linksOf isList pairsTogether pathCloses conditionRefusal ringRefusal cutAlong tapeBytes orbitJoins joinsOver
+    putsOf tapeOf sizeFits tableRefusal callRefusal callLeaves ringCallRefusal ringCallLeaves reportOn emptyTable sameNumbers
     facesFit
     rowFits allFit rows
 plansLaw = refl

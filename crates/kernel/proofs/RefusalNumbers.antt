@@ -11,13 +11,13 @@ use Rattle.hypermap.proofs.Basics.Lists.{allMem}
 use Rattle.table.specs.Refusals.{wrongSize, bentTable, offTheTable, noTab, unknownCommand, tornCommand}
 use Rattle.table.specs.Refusals.{orElse, unless}
 use Rattle.table.specs.Layout.{Table}
-use Rattle.table.specs.Commands.{Command, puts, takesOut, joins, cuts, presenceFault, commandFault}
-use Rattle.rings.specs.Rings.{conditionFault, ringFault}
-use Rattle.tape.specs.Steps.{TapeCommand, changes, reports, cutsRing, stepFault, stepOn}
-use Rattle.tape.specs.Tapes.{readFault, restOf, contentsBy}
+use Rattle.table.specs.Commands.{Command, puts, takesOut, joins, cuts, presenceRefusal, commandRefusal}
+use Rattle.rings.specs.Rings.{conditionRefusal, ringRefusal}
+use Rattle.tape.specs.Steps.{TapeCommand, changes, reports, cutsRing, stepRefusal, stepOn}
+use Rattle.tape.specs.Tapes.{readRefusal, restOf, contentsBy}
 use Rattle.tape.specs.Runs.{runOver}
-use Rattle.kernel.specs.Calls.{tableFault, callFault, ringCallFault}
-use Rattle.kernel.specs.Tapes.{tapeFault, playFault, playOutcome}
+use Rattle.kernel.specs.Calls.{tableRefusal, callRefusal, ringCallRefusal}
+use Rattle.kernel.specs.Tapes.{tapeRefusal, playRefusal, playOutcome}
 use Rattle.kernel.specs.Demands.{OneOf, tableNumbers, commandNumbers, ringNumbers}
 use Rattle.kernel.specs.Demands.{runNumbers}
 
@@ -37,20 +37,20 @@ pub orElseOne : {n m : ℕ} {ns : List ℕ} → One n ns → One m ns → One (o
 unfolding orElse
 orElseOne {n} f g = byCases (eqb n 0) (λ t. rw t g) (λ t. rw t f)
 
-pub tableOne : (w : Table) {ns : List ℕ} → among wrongSize ns ≡ true → among bentTable ns ≡ true → One (tableFault w) ns
-unfolding tableFault
+pub tableOne : (w : Table) {ns : List ℕ} → among wrongSize ns ≡ true → among bentTable ns ≡ true → One (tableRefusal w) ns
+unfolding tableRefusal
 tableOne w p q = orElseOne (unlessOne _ _ p) (unlessOne _ _ q)
 
 pub presenceOne :
     (w : Table) (xs : List ℕ) {ns : List ℕ} → among offTheTable ns ≡ true → among noTab ns ≡ true →
-    One (presenceFault w xs) ns
-unfolding presenceFault
+    One (presenceRefusal w xs) ns
+unfolding presenceRefusal
 presenceOne w xs p q = orElseOne (unlessOne _ _ p) (unlessOne _ _ q)
 
 pub widen : {n : ℕ} {ns : List ℕ} (ms : List ℕ) → all (λ k. among k ms) ns ≡ true → One n ns → One n ms
 widen {n} {ns} ms p f = record { one = λ z. allMem (λ k. among k ms) ns p n (f .one z) }
 
-restOne : (w : Table) (c : Command) → One (commandFault w c) (commandNumbers c)
+restOne : (w : Table) (c : Command) → One (commandRefusal w c) (commandNumbers c)
 unfolding among
 restOne w (puts x) = orElseOne (unlessOne _ _ refl) (unlessOne _ _ refl)
 restOne w (takesOut x) = orElseOne (presenceOne _ _ refl refl) (unlessOne _ _ refl)
@@ -59,7 +59,7 @@ restOne w (cuts k a b) =
     orElseOne (presenceOne _ _ refl refl) (orElseOne (unlessOne _ _ refl) (unlessOne _ _ refl))
 
 -- every command's numbers begin with the table's, and are numbers of a run
-tableFirst : (w : Table) (c : Command) → One (tableFault w) (commandNumbers c)
+tableFirst : (w : Table) (c : Command) → One (tableRefusal w) (commandNumbers c)
 unfolding among
 tableFirst w (puts x) = tableOne w refl refl
 tableFirst w (takesOut x) = tableOne w refl refl
@@ -73,12 +73,12 @@ inRun (takesOut x) = refl
 inRun (joins k a b) = refl
 inRun (cuts k a b) = refl
 
-pub commandOne : (w : Table) (c : Command) → One (callFault w c) (commandNumbers c)
-unfolding callFault
+pub commandOne : (w : Table) (c : Command) → One (callRefusal w c) (commandNumbers c)
+unfolding callRefusal
 commandOne w c = orElseOne (tableFirst w c) (restOne w c)
 
-ringRest : (w : Table) (ws : List ℕ) → One (ringFault w ws) ringNumbers
-unfolding among ringFault conditionFault
+ringRest : (w : Table) (ws : List ℕ) → One (ringRefusal w ws) ringNumbers
+unfolding among ringRefusal conditionRefusal
 ringRest w ws =
     orElseOne (unlessOne _ _ refl)
     (orElseOne (presenceOne _ _ refl refl)
@@ -86,38 +86,38 @@ ringRest w ws =
     (orElseOne (unlessOne _ _ refl)
     (orElseOne (unlessOne _ _ refl) (orElseOne (unlessOne _ _ refl) (unlessOne _ _ refl))))))
 
-pub ringOne : (w : Table) (ws : List ℕ) → One (ringCallFault w ws) ringNumbers
-unfolding among ringCallFault
+pub ringOne : (w : Table) (ws : List ℕ) → One (ringCallRefusal w ws) ringNumbers
+unfolding among ringCallRefusal
 ringOne w ws = orElseOne (tableOne _ refl refl) (ringRest w ws)
 
 -- A RUN
-pub playOne : (w : Table) (tape : List ℕ) → One (playFault w tape) tableNumbers
-unfolding playFault tapeFault among
+pub playOne : (w : Table) (tape : List ℕ) → One (playRefusal w tape) tableNumbers
+unfolding playRefusal tapeRefusal among
 playOne w tape = orElseOne (unlessOne _ _ refl) (tableOne _ refl refl)
 
-stepOne : (w : Table) (c : TapeCommand) → One (stepFault w c) runNumbers
+stepOne : (w : Table) (c : TapeCommand) → One (stepRefusal w c) runNumbers
 unfolding among all
 stepOne w (changes c) = widen runNumbers (inRun c) (restOne w c)
 stepOne w reports = none
 stepOne w (cutsRing ws) = widen runNumbers refl (ringRest w ws)
 
 pub contentsOne : (n : ℕ) (bs : List ℕ) → One (contentsBy n bs .refusal) (unknownCommand ∷ tornCommand ∷ [])
-unfolding contentsBy readFault among
+unfolding contentsBy readRefusal among
 contentsOne zero bs = none
 contentsOne (suc n) [] = none
 contentsOne (suc n) (b ∷ bs) =
-    byCases (eqb (readFault (b ∷ bs)) 0) (λ t. rw t (contentsOne n (restOf (b ∷ bs))))
+    byCases (eqb (readRefusal (b ∷ bs)) 0) (λ t. rw t (contentsOne n (restOf (b ∷ bs))))
     (λ t. rw t (orElseOne (unlessOne _ _ refl) (unlessOne _ _ refl)))
 
 foldOne : (w : Table) (cs : List TapeCommand) (n : ℕ) → One n runNumbers → One (runOver w cs n .number) runNumbers
 unfolding runOver
 foldOne w [] n f = f
 foldOne w (c ∷ cs) n f =
-    byCases (eqb (stepFault w c) 0) (λ t. rw t (foldOne (stepOn w c) cs n f)) (λ t. rw t (stepOne w c))
+    byCases (eqb (stepRefusal w c) 0) (λ t. rw t (foldOne (stepOn w c) cs n f)) (λ t. rw t (stepOne w c))
 
 pub runOne : (w : Table) (tape : List ℕ) → One (playOutcome w tape .number) runNumbers
 unfolding playOutcome among all
 runOne w tape =
-    byCases (eqb (playFault w tape) 0)
+    byCases (eqb (playRefusal w tape) 0)
     (λ t. rw t (foldOne w _ _ (widen runNumbers refl (contentsOne (length tape) tape))))
     (λ t. rw t (widen runNumbers refl (playOne w tape)))

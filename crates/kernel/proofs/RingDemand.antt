@@ -14,18 +14,18 @@ use Rattle.hypermap.proofs.Basics.Lists.{Mem}
 use Rattle.hypermap.proofs.Laws.ComponentGenus.{genusBelow}
 use Rattle.hypermap.proofs.Laws.Jordan.{breakDarts}
 use Rattle.table.specs.Refusals.{orElse}
-use Rattle.table.specs.Layout.{Table, isSound, hypermapOf}
+use Rattle.table.specs.Layout.{Table, holdsHypermap, hypermapOf}
 use Rattle.table.specs.Commands.{leaves}
-use Rattle.table.proofs.Faults.{passed}
-use Rattle.table.proofs.Soundness.{memPresent, soundHypermap}
+use Rattle.table.proofs.Stages.{passed}
+use Rattle.table.proofs.Holding.{memPresent, tableHypermap}
 use Rattle.parts.specs.Sharing.{isSame}
 use Rattle.parts.specs.declared.Part.the-variants.{Component}
 use Rattle.parts.proofs.Lifting.{untouchedCounts}
-use Rattle.rings.specs.Rings.{linksOf, ringFault, cutAlong}
+use Rattle.rings.specs.Rings.{linksOf, ringRefusal, cutAlong}
 use Rattle.rings.specs.Laws.{IsCut, areDarts}
 use Rattle.rings.proofs.Conditions.{someLinks, conditionsLaw}
 use Rattle.rings.proofs.Parting.{acceptedDarts, acceptedCut, partingLaw, planarPartingLaw}
-use Rattle.kernel.specs.Calls.{tableFault, totalsOf, reportOf, ringCallFault, ringCallLeaves, questionFault}
+use Rattle.kernel.specs.Calls.{tableRefusal, totalsOf, reportOf, ringCallRefusal, ringCallLeaves, questionRefusal}
 use Rattle.kernel.specs.Calls.{componentReportOf}
 use Rattle.kernel.specs.Demands.{IsPartedByReports, ComponentRingDemand, IsRingCut, RingDemand}
 use Rattle.kernel.proofs.Answering.{givenReport}
@@ -37,39 +37,39 @@ someLink : (ls : List DoubleLink) → (ls ≡ [] → ⊥) → (l : DoubleLink) �
 someLink [] n = absurd (n refl)
 someLink (l ∷ ls) n = (l, ls, refl)
 
-pub ringPassed : (w : Table) (ws : List ℕ) → ringCallFault w ws ≡ 0 → (tableFault w ≡ 0) × (ringFault w ws ≡ 0)
-unfolding ringCallFault
-ringPassed w ws e = passed (tableFault w) (ringFault w ws) e
+pub ringPassed : (w : Table) (ws : List ℕ) → ringCallRefusal w ws ≡ 0 → (tableRefusal w ≡ 0) × (ringRefusal w ws ≡ 0)
+unfolding ringCallRefusal
+ringPassed w ws e = passed (tableRefusal w) (ringRefusal w ws) e
 
-pub ringFits : (w : Table) (ws : List ℕ) → tableFault w ≡ 0 → ringFault w ws ≡ 0 → ringCallFault w ws ≡ 0
-unfolding ringCallFault orElse
+pub ringFits : (w : Table) (ws : List ℕ) → tableRefusal w ≡ 0 → ringRefusal w ws ≡ 0 → ringCallRefusal w ws ≡ 0
+unfolding ringCallRefusal orElse
 ringFits w ws e f = rw (e, f)
 
-pub ringLeaves : (w : Table) (ws : List ℕ) → ringCallFault w ws ≡ 0 → ringCallLeaves w ws ≡ cutAlong (linksOf ws) w
+pub ringLeaves : (w : Table) (ws : List ℕ) → ringCallRefusal w ws ≡ 0 → ringCallLeaves w ws ≡ cutAlong (linksOf ws) w
 unfolding ringCallLeaves leaves
-ringLeaves w ws e = rw (eq-eqb (ringCallFault w ws) 0 e)
+ringLeaves w ws e = rw (eq-eqb (ringCallRefusal w ws) 0 e)
 
-module _ (w : Table) (ws : List ℕ) (e : ringCallFault w ws ≡ 0) where
-  t : tableFault w ≡ 0
+module _ (w : Table) (ws : List ℕ) (e : ringCallRefusal w ws ≡ 0) where
+  t : tableRefusal w ≡ 0
   t = ringPassed w ws e .0
 
-  f : ringFault w ws ≡ 0
+  f : ringRefusal w ws ≡ 0
   f = ringPassed w ws e .1
 
-  sound : isSound w ≡ true
-  sound = tablePassed w t .sound
+  hypermap : holdsHypermap w ≡ true
+  hypermap = tablePassed w t .hypermap
 
   abbrev v : Table
   v = cutAlong (linksOf ws) w
 
   isCut : IsCut w (linksOf ws)
-  isCut = acceptedCut w ws sound f
+  isCut = acceptedCut w ws hypermap f
 
-  fits : tableFault v ≡ 0
-  fits = tableFits v (sizeStays v w (isCut .size) (tablePassed w t .size)) (isCut .sound)
+  fits : tableRefusal v ≡ 0
+  fits = tableFits v (sizeStays v w (isCut .size) (tablePassed w t .size)) (isCut .hypermap)
 
   wf : isHypermap (hypermapOf w) ≡ true
-  wf = soundHypermap w sound
+  wf = tableHypermap w hypermap
 
   sameDarts : hypermapOf v .darts ≡ hypermapOf w .darts
   sameDarts = isCut .holds .darts ∙ breakDarts (linksOf ws) (hypermapOf w)
@@ -83,14 +83,14 @@ module _ (w : Table) (ws : List ℕ) (e : ringCallFault w ws ≡ 0) where
         (andLeft (isDart (hypermapOf w) (l .first)) _ d, andRight (isDart (hypermapOf w) (l .first)) _ d)
 
     -- a report of a dart, before and after
-    asked : (x : ℕ) → Mem x (hypermapOf w .darts) → (questionFault w (x ∷ []) ≡ 0) × (questionFault v (x ∷ []) ≡ 0)
+    asked : (x : ℕ) → Mem x (hypermapOf w .darts) → (questionRefusal w (x ∷ []) ≡ 0) × (questionRefusal v (x ∷ []) ≡ 0)
     asked x d = (dartFits w x t (rw memPresent at d), dartFits v x fits (sym (memPresent v x) ∙ rw sameDarts d))
 
     module _ (g : componentReportOf w (l .first) .genus ≡ 0) where
       parted : IsParted (hypermapOf w) (hypermapOf v) l ls
       parted =
           let r = componentReported w (l .first) (asked (l .first) (inRing .0) .0) in
-          partingLaw w ws l ls sound f q (eq-eqb (genus (componentAt (hypermapOf w) (l .first))) 0 (sym (r .genus) ∙ g))
+          partingLaw w ws l ls hypermap f q (eq-eqb (genus (componentAt (hypermapOf w) (l .first))) 0 (sym (r .genus) ∙ g))
 
       planar :
           (x : ℕ) → Mem x (hypermapOf w .darts) → isPlanar (componentAt (hypermapOf v) x) ≡ true →
@@ -105,7 +105,7 @@ module _ (w : Table) (ws : List ℕ) (e : ringCallFault w ws ≡ 0) where
       others x i n =
           let d : Mem x (hypermapOf w .darts) = memPresent w x ∙ dartReady w x (componentPassed w x i) .here in
           let z = asked x d in
-          let c = untouchedCounts (hypermapOf w) (hypermapOf v) wf (soundHypermap v (isCut .sound)) sameDarts x d
+          let c = untouchedCounts (hypermapOf w) (hypermapOf v) wf (tableHypermap v (isCut .hypermap)) sameDarts x d
           (parted .others x d n) in
           sym (givenReport _ (componentAt (hypermapOf v) x) 0 _ (sym (z .1)) refl refl) ∙ ap totalsOf c ∙
           givenReport _ (componentAt (hypermapOf w) x) 0 _ (sym (z .0)) refl refl
@@ -139,7 +139,7 @@ module _ (w : Table) (ws : List ℕ) (e : ringCallFault w ws ≡ 0) where
         (reportOf v .genus ≡ 0)
     ringCut =
         let k = parted (ring .0) (ring .1) (ring .2) ofRing in
-        let p = planarPartingLaw w ws (ring .0) (ring .1) sound f (ring .2) (eq-eqb (genus (hypermapOf w)) 0 noGenus) in
+        let p = planarPartingLaw w ws (ring .0) (ring .1) hypermap f (ring .2) (eq-eqb (genus (hypermapOf w)) 0 noGenus) in
         let r = planReported v fits in (
           record { link = ring .0; links = ring .1; listed = ring .2; parted = k },
           r .number,

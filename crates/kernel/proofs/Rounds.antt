@@ -9,23 +9,23 @@ use Rattle.table.specs.Layout.{Table, capacity}
 use Rattle.table.specs.Inner.{kindOf}
 use Rattle.table.specs.declared.Orbit.{Orbit}
 use Rattle.table.proofs.Walking.{lengthLaw}
-use Rattle.kernel.specs.Calls.{maxCapacity, questionFault, roundOf}
+use Rattle.kernel.specs.Calls.{maxCapacity, questionRefusal, roundOf}
 use Rattle.kernel.specs.Rounds.{RoundPromise}
 use Rattle.kernel.proofs.Answering.{listPassed, listRoom}
 use Rattle.kernel.proofs.Judging.{dartReady}
 use Rattle.kernel.proofs.SecondDemand.{secondDemand}
 
 inCapacity :
-    (w : Table) (o : Orbit) (x : ℕ) → questionFault w (x ∷ []) ≡ 0 →
+    (w : Table) (o : Orbit) (x : ℕ) → questionRefusal w (x ∷ []) ≡ 0 →
     (length (roundOf w o x) ≤ capacity w) × (capacity w ≤ maxCapacity)
 inCapacity w o x z =
     let r = dartReady w x z in
-    (lengthLaw w (r .sound) (kindOf o) x (r .here) .inCapacity, r .room)
+    (lengthLaw w (r .hypermap) (kindOf o) x (r .here) .inCapacity, r .room)
 
 pub roundPromise : RoundPromise
 roundPromise = record {
   most = λ w o x out e.
       rw (secondDemand .round w o x out e .count) (inCapacity w o x (listPassed _ (roundOf w o x) out e .0));
   room = λ w o x out h.
-      listRoom (questionFault w (x ∷ [])) (roundOf w o x) out (λ z. omega (arith, inCapacity w o x z .0));
+      listRoom (questionRefusal w (x ∷ [])) (roundOf w o x) out (λ z. omega (arith, inCapacity w o x z .0));
 }

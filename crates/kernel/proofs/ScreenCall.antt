@@ -9,29 +9,29 @@ use Rattle.table.specs.Layout.{Table, wordsPerDart}
 use Rattle.tape.specs.Runs.{runOf, toldOf}
 use Rattle.tape.specs.Inner.{Playable}
 use Rattle.tape.specs.declared.Run.{Run}
-use Rattle.tape.proofs.Running.{zerosCounted, soundRunLaw}
+use Rattle.tape.proofs.Running.{zerosWithin, runKeepsHypermapLaw}
 use Rattle.kernel.specs.Calls.{maxCapacity}
 use Rattle.writer.specs.Screens.{screenRoom, screenBytes, outcomeOf}
-use Rattle.kernel.specs.Tapes.{maxTape, tapeFault, screenFault, screenLeaves, emptyTable}
+use Rattle.kernel.specs.Tapes.{maxTape, tapeRefusal, screenRefusal, screenLeaves, emptyTable}
 use Rattle.writer.specs.Inner.{ScreenRoom}
 
 -- THE CALL
 module _ (bs o : List ℕ) where
-  pub screenLong : maxTape < length bs → (wrongSize ≡ screenFault bs o) × (o ≡ screenLeaves bs o)
-  unfolding screenFault screenLeaves tapeFault orElse unless
+  pub screenLong : maxTape < length bs → (wrongSize ≡ screenRefusal bs o) × (o ≡ screenLeaves bs o)
+  unfolding screenRefusal screenLeaves tapeRefusal orElse unless
   screenLong h = rw (lt-leb (length bs) maxTape h) (refl, refl)
 
   pub screenShort :
-      length bs ≤ maxTape → length o < screenRoom → (shortRoom ≡ screenFault bs o) × (o ≡ screenLeaves bs o)
-  unfolding screenFault screenLeaves tapeFault orElse unless
+      length bs ≤ maxTape → length o < screenRoom → (shortRoom ≡ screenRefusal bs o) × (o ≡ screenLeaves bs o)
+  unfolding screenRefusal screenLeaves tapeRefusal orElse unless
   screenShort h l = rw (le-leb (length bs) maxTape h, lt-leb screenRoom (length o) l) (refl, refl)
 
   pub screenGiven :
       (e w : Table) (r : Run) (p : List ℕ) → length bs ≤ maxTape → screenRoom ≤ length o →
       e ≡ emptyTable maxCapacity → r ≡ toldOf (runOf e bs) → w ≡ runOf e bs .table →
       p ≡ screenBytes (outcomeOf r w) ++ drop (length (screenBytes (outcomeOf r w))) o →
-      (0 ≡ screenFault bs o) × (p ≡ screenLeaves bs o)
-  unfolding screenFault screenLeaves tapeFault orElse unless
+      (0 ≡ screenRefusal bs o) × (p ≡ screenLeaves bs o)
+  unfolding screenRefusal screenLeaves tapeRefusal orElse unless
   screenGiven e w r p h l q i j k =
       rw (le-leb (length bs) maxTape h, le-leb screenRoom (length o) l) (refl, k ∙ rw (i, j, q) refl)
 
@@ -42,13 +42,13 @@ emptyIs n = refl
 
 pub emptyPlayable :
     (n : ℕ) (bs : List ℕ) → n ≤ 4096 → length bs ≤ maxTape → Playable (replicate (wordsPerDart * n) 0) bs
-emptyPlayable n bs h l = record { table = zerosCounted n h; short = l }
+emptyPlayable n bs h l = record { table = zerosWithin n h; short = l }
 
 -- a run on it leaves a sound table of its size
 pub screenReady :
     (n : ℕ) (bs o : List ℕ) (w : Table) → n ≤ 4096 → screenRoom ≤ length o →
     w ≡ runOf (replicate (wordsPerDart * n) 0) bs .table → ScreenRoom w o
 screenReady n bs o w h l e =
-    let k = zerosCounted n h in
-    let s = soundRunLaw (replicate (wordsPerDart * n) 0) bs (k .sound) in
-    record { table = record { sound = rw e (s .0); room = rw (e, s .1) (k .room) }; room = l }
+    let k = zerosWithin n h in
+    let s = runKeepsHypermapLaw (replicate (wordsPerDart * n) 0) bs (k .hypermap) in
+    record { table = record { hypermap = rw e (s .0); room = rw (e, s .1) (k .room) }; room = l }

@@ -20,9 +20,9 @@ use Rattle.table.specs.Inner.{kindOf}
 use Rattle.table.specs.Laws.{Holds}
 use Rattle.table.specs.declared.Orbit.{Orbit}
 use Rattle.table.proofs.OnlyTables.{tableLaw}
-use Rattle.table.proofs.Soundness.{memPresent, soundHypermap}
+use Rattle.table.proofs.Holding.{memPresent, tableHypermap}
 use Rattle.table.proofs.Swaps.{swapLaw}
-use Rattle.table.proofs.Zeros.{zerosSound}
+use Rattle.table.proofs.Zeros.{zerosHold}
 use Rattle.parts.specs.Sharing.{isSame}
 use Rattle.parts.specs.declared.Part.{Part}
 use Rattle.parts.specs.declared.Part.the-variants.{Edge, Vertex, Face, Component}
@@ -32,8 +32,8 @@ use Rattle.writer.specs.Canonical.{tapeOf}
 use Rattle.writer.specs.Laws.{IsBuilt}
 use Rattle.writer.proofs.Sizes.{tapeFits}
 use Rattle.writer.proofs.Building.{buildLaw, onlyTapeLaw}
-use Rattle.kernel.specs.Calls.{tableFault, callFault, callLeaves, questionFault, sameAnswer}
-use Rattle.kernel.specs.Calls.{listFault, listLeaves, listAnswer, roundOf, roundAnswer}
+use Rattle.kernel.specs.Calls.{tableRefusal, callRefusal, callLeaves, questionRefusal, sameAnswer}
+use Rattle.kernel.specs.Calls.{listRefusal, listLeaves, listAnswer, roundOf, roundAnswer}
 use Rattle.kernel.specs.Tapes.{playOutcome}
 use Rattle.kernel.specs.Demands.{JoinsBy, CutsBy, RingsBy, Shares, IsRound, SecondDemand}
 use Rattle.kernel.proofs.Answering.{givenAnswer, answerNumber, givenReport, listPassed}
@@ -78,20 +78,20 @@ cutAccepted w k a b = (
 
 -- an accepted command that swaps has made the change of 2.8
 changes :
-    (w : Table) (k : Dimension) (a b : ℕ) (c : Command) → callFault w c ≡ 0 → commandOn w c ≡ swapped k a b w →
+    (w : Table) (k : Dimension) (a b : ℕ) (c : Command) → callRefusal w c ≡ 0 → commandOn w c ≡ swapped k a b w →
     isPresent w a ≡ true → isPresent w b ≡ true → Holds (callLeaves w c) (change k a b (hypermapOf w))
 changes w k a b c e q pa pb =
-    rw (acceptedLeaves w c e, q) (swapLaw w (tablePassed w (callPassed w c e .0) .sound) k a b pa pb .holds)
+    rw (acceptedLeaves w c e, q) (swapLaw w (tablePassed w (callPassed w c e .0) .hypermap) k a b pa pb .holds)
 
 joinChanges :
-    (w : Table) (k : Dimension) (a b : ℕ) → callFault w (joins k a b) ≡ 0 →
+    (w : Table) (k : Dimension) (a b : ℕ) → callRefusal w (joins k a b) ≡ 0 →
     Holds (callLeaves w (joins k a b)) (change k a b (hypermapOf w))
 joinChanges w k a b e =
     let j = joinPassed w k a b (callPassed w (joins k a b) e .1) in
     changes w k a b (joins k a b) e refl (j .first) (j .second)
 
 cutChanges :
-    (w : Table) (k : Dimension) (a b : ℕ) → callFault w (cuts k a b) ≡ 0 →
+    (w : Table) (k : Dimension) (a b : ℕ) → callRefusal w (cuts k a b) ≡ 0 →
     Holds (callLeaves w (cuts k a b)) (change k a b (hypermapOf w))
 cutChanges w k a b e =
     let s = cutPassed w k a b (callPassed w (cuts k a b) e .1) in
@@ -118,47 +118,47 @@ same :
     (sameAnswer w p a b .yes ≡ true) ↔ Shares (hypermapOf w) p a b
 unfolding sameAnswer
 same w p a b e =
-    let q = questionFault w (a ∷ b ∷ []) in
+    let q = questionRefusal w (a ∷ b ∷ []) in
     let z = sym (answerNumber q (isSame w p a b) 0) ∙ e in
     let r = dartsReady w a b z .both in
     rw (← givenAnswer q q (isSame w p a b) 0 refl z)
-    (shares w p a b (soundHypermap w (r .sound)) (memPresent w a ∙ r .first))
+    (shares w p a b (tableHypermap w (r .hypermap)) (memPresent w a ∙ r .first))
 
 round : (w : Table) (o : Orbit) (x : ℕ) (out : List ℕ) → roundAnswer w o x out .number ≡ 0 → IsRound w o x out
 unfolding listAnswer listLeaves
 round w o x out e =
-    let q = questionFault w (x ∷ []) in
+    let q = questionRefusal w (x ∷ []) in
     let l = roundOf w o x in
     let p = listPassed q l out e in
     let r = dartReady w x (p .0) in
     record {
-      orbit = orbitLaw (hypermapOf w) (soundHypermap w (r .sound)) (kindOf o) .0 x (memPresent w x ∙ r .here);
-      count = ap (λ a. a .count) (sym (givenAnswer _ (listFault q l out) false (length l) refl (p .1)));
-      written = rw (eq-eqb (listFault q l out) 0 (p .1));
+      orbit = orbitLaw (hypermapOf w) (tableHypermap w (r .hypermap)) (kindOf o) .0 x (memPresent w x ∙ r .here);
+      count = ap (λ a. a .count) (sym (givenAnswer _ (listRefusal q l out) false (length l) refl (p .1)));
+      written = rw (eq-eqb (listRefusal q l out) 0 (p .1));
     }
 
 -- THE TAPE
-emptyFits : (w : Table) → tableFault w ≡ 0 → tableFault (replicate (length w) 0) ≡ 0
+emptyFits : (w : Table) → tableRefusal w ≡ 0 → tableRefusal (replicate (length w) 0) ≡ 0
 emptyFits w e =
     tableFits (replicate (length w) 0)
     (sizeStays (replicate (length w) 0) w (length-replicate (length w) 0) (tablePassed w e .size))
-    (zerosSound (length w))
+    (zerosHold (length w))
 
-short : (w : Table) → tableFault w ≡ 0 → length (tapeOf w) ≤ 53238
-short w e = let t = tablePassed w e in tapeFits w (t .sound) (t .room)
+short : (w : Table) → tableRefusal w ≡ 0 → length (tapeOf w) ≤ 53238
+short w e = let t = tablePassed w e in tapeFits w (t .hypermap) (t .room)
 
-built : (w : Table) → tableFault w ≡ 0 → IsBuilt w (playOutcome (replicate (length w) 0) (tapeOf w))
+built : (w : Table) → tableRefusal w ≡ 0 → IsBuilt w (playOutcome (replicate (length w) 0) (tapeOf w))
 built w e =
     let t = tablePassed w e in
     let f = emptyFits w e in
     let s = short w e in
     rw (played (replicate (length w) 0) (tapeOf w) (omega arith) 0 (sym f) refl)
-    (buildLaw w (t .sound) (wholeWords w (t .size)))
+    (buildLaw w (t .hypermap) (wholeWords w (t .size)))
 
 -- DEMAND 2, whole
 pub secondDemand : SecondDemand
 secondDemand = record {
-  hypermap = λ w e. soundHypermap w (tablePassed w e .sound);
+  hypermap = λ w e. tableHypermap w (tablePassed w e .hypermap);
   table = tableLaw;
   theory = theory;
   joinAccepted = joinAccepted;
@@ -168,16 +168,16 @@ secondDemand = record {
   ringAccepted = ringAccepted;
   ringBreaks = λ w ws e.
       let p = ringPassed w ws e in
-      rw (ringLeaves w ws e) (acceptedCut w ws (tablePassed w (p .0) .sound) (p .1) .holds);
+      rw (ringLeaves w ws e) (acceptedCut w ws (tablePassed w (p .0) .hypermap) (p .1) .holds);
   same = same;
   round = round;
-  report = λ w e. sym (givenReport (tableFault w) (hypermapOf w) 0 _ (sym (reportPassed w e)) refl refl);
+  report = λ w e. sym (givenReport (tableRefusal w) (hypermapOf w) 0 _ (sym (reportPassed w e)) refl refl);
   componentReport = λ w x e.
       let z = componentPassed w x e in
-      sym (givenReport (questionFault w (x ∷ [])) (componentAt (hypermapOf w) x) 0 _ (sym z) refl refl);
+      sym (givenReport (questionRefusal w (x ∷ [])) (componentAt (hypermapOf w) x) 0 _ (sym z) refl refl);
   built = built;
   short = short;
   onlyTape = λ v w e f l t.
       let p = tablePassed v e in
-      onlyTapeLaw v w (p .sound) (tablePassed w f .sound) (wholeWords v (p .size)) l t;
+      onlyTapeLaw v w (p .hypermap) (tablePassed w f .hypermap) (wholeWords v (p .size)) l t;
 }

@@ -11,8 +11,8 @@ use borrow.Author.Tests.{eqb-true, eqb-false, eq-eqb, ne-eqb}
 use Rattle.hypermap.specs.Lists.{among, all}
 use Rattle.hypermap.proofs.Basics.Bools.{byCases}
 use Rattle.table.specs.Refusals.{wrongSize, unknownCommand, tornCommand}
-use Rattle.table.specs.Layout.{Table, capacity, wordsPerDart, isSound}
-use Rattle.table.proofs.Faults.{passed}
+use Rattle.table.specs.Layout.{Table, capacity, wordsPerDart, holdsHypermap}
+use Rattle.table.proofs.Stages.{passed}
 use Rattle.tape.specs.Steps.{TapeCommand}
 use Rattle.tape.specs.Tapes.{Contents, contentsOf}
 use Rattle.tape.specs.Runs.{runOf}
@@ -23,8 +23,8 @@ use Rattle.needs.specs.declared.Needs.{Needs}
 use Rattle.needs.proofs.Capacities.{capacityLaw, acceptedCapacityLaw}
 use Rattle.needs.proofs.Peaks.{peakLaw, mostDartsLaw, noDarts}
 use Rattle.needs.proofs.ChangedWords.{wordsLaw}
-use Rattle.kernel.specs.Calls.{tableFault}
-use Rattle.kernel.specs.Tapes.{maxTape, tapeFault, playFault, playOutcome, emptyTable}
+use Rattle.kernel.specs.Calls.{tableRefusal}
+use Rattle.kernel.specs.Tapes.{maxTape, tapeRefusal, playRefusal, playOutcome, emptyTable}
 use Rattle.kernel.specs.TapeNeeds.{needsAnswer, IsForetold, NeedsPromise}
 use Rattle.kernel.proofs.Judging.{tablePassed}
 use Rattle.kernel.proofs.Tapes.{tapeLong, tapeShort}
@@ -35,11 +35,11 @@ pub needsLong : (bs : List ℕ) → maxTape < length bs → refusedNeeds wrongSi
 unfolding needsAnswer
 needsLong bs l =
     let e = tapeLong bs l in
-    rw (ne-eqb (tapeFault bs) 0 (λ z. absurd (omega arith)), e) refl
+    rw (ne-eqb (tapeRefusal bs) 0 (λ z. absurd (omega arith)), e) refl
 
 pub needsRead : (bs : List ℕ) → length bs ≤ maxTape → neededBy (contentsOf bs) ≡ needsAnswer bs
 unfolding needsAnswer
-needsRead bs l = rw (eq-eqb (tapeFault bs) 0 (tapeShort bs l))
+needsRead bs l = rw (eq-eqb (tapeRefusal bs) 0 (tapeShort bs l))
 
 neededNumber : (t : Contents) → neededBy t .number ≡ t .refusal
 unfolding neededBy
@@ -56,8 +56,8 @@ neededZeros t z =
 abbrev numbers : List ℕ
 numbers = wrongSize ∷ unknownCommand ∷ tornCommand ∷ []
 
-tapeOne : (bs : List ℕ) → One (tapeFault bs) numbers
-unfolding tapeFault among
+tapeOne : (bs : List ℕ) → One (tapeRefusal bs) numbers
+unfolding tapeRefusal among
 tapeOne bs = unlessOne _ _ refl
 
 contentsWide : (bs : List ℕ) → One (contentsOf bs .refusal) numbers
@@ -67,13 +67,13 @@ contentsWide bs = widen numbers refl (contentsOne (length bs) bs)
 -- refused for its size, or as the reading ends
 module _ (bs : List ℕ) where
   answerCases :
-      (P : Needs → Type 0) → ((tapeFault bs ≡ 0 → ⊥) → P (refusedNeeds (tapeFault bs))) →
-      (tapeFault bs ≡ 0 → P (neededBy (contentsOf bs))) → P (needsAnswer bs)
+      (P : Needs → Type 0) → ((tapeRefusal bs ≡ 0 → ⊥) → P (refusedNeeds (tapeRefusal bs))) →
+      (tapeRefusal bs ≡ 0 → P (neededBy (contentsOf bs))) → P (needsAnswer bs)
   unfolding needsAnswer
   answerCases P f g =
-      byCases (eqb (tapeFault bs) 0)
-      (λ e. rw e (g (eqb-true (tapeFault bs) 0 e)))
-      (λ e. rw e (f (eqb-false (tapeFault bs) 0 e)))
+      byCases (eqb (tapeRefusal bs) 0)
+      (λ e. rw e (g (eqb-true (tapeRefusal bs) 0 e)))
+      (λ e. rw e (f (eqb-false (tapeRefusal bs) 0 e)))
 
   accepted : needsAnswer bs .number ≡ 0 → needsAnswer bs ≡ needsOf (contentsOf bs .commands)
   unfolding neededBy
@@ -84,23 +84,23 @@ module _ (bs : List ℕ) where
 
   -- A RUN that nothing stops
   module _ (w : Table) (e : playOutcome w bs .number ≡ 0) where
-    unjudged : playFault w bs ≡ 0
+    unjudged : playRefusal w bs ≡ 0
     unfolding playOutcome
     unjudged =
-        byCases (eqb (playFault w bs) 0)
-        (λ t. eqb-true (playFault w bs) 0 t)
+        byCases (eqb (playRefusal w bs) 0)
+        (λ t. eqb-true (playRefusal w bs) 0 t)
         (λ f. rw f at e)
 
     ran : playOutcome w bs ≡ runOf w bs
     unfolding playOutcome
-    ran = rw (eq-eqb (playFault w bs) 0 unjudged)
+    ran = rw (eq-eqb (playRefusal w bs) 0 unjudged)
 
-    stages : (tapeFault bs ≡ 0) × (tableFault w ≡ 0)
-    unfolding playFault
-    stages = passed (tapeFault bs) (tableFault w) unjudged
+    stages : (tapeRefusal bs ≡ 0) × (tableRefusal w ≡ 0)
+    unfolding playRefusal
+    stages = passed (tapeRefusal bs) (tableRefusal w) unjudged
 
-    sound : isSound w ≡ true
-    sound = tablePassed w (stages .1) .sound
+    hypermap : holdsHypermap w ≡ true
+    hypermap = tablePassed w (stages .1) .hypermap
 
     abbrev cs : List TapeCommand
     cs = contentsOf bs .commands
@@ -110,17 +110,17 @@ module _ (bs : List ℕ) where
 
     foretold : needsAnswer bs ≡ needsOf cs
     unfolding needsAnswer neededBy
-    foretold = rw (eq-eqb (tapeFault bs) 0 (stages .0), eq-eqb (contentsOf bs .refusal) 0 (whole .1))
+    foretold = rw (eq-eqb (tapeRefusal bs) 0 (stages .0), eq-eqb (contentsOf bs .refusal) 0 (whole .1))
 
 fits : (w : Table) (bs : List ℕ) → playOutcome w bs .number ≡ 0 → needsAnswer bs .capacity ≤ capacity w
 fits w bs e =
-    rw (foretold bs w e) (acceptedCapacityLaw w (contentsOf bs .commands) (sound bs w e) (whole bs w e .0))
+    rw (foretold bs w e) (acceptedCapacityLaw w (contentsOf bs .commands) (hypermap bs w e) (whole bs w e .0))
 
 run : (n : ℕ) (bs : List ℕ) → playOutcome (emptyTable n) bs .number ≡ 0 → IsForetold n bs
 unfolding emptyTable
 run n bs e =
     let w = emptyTable n in
-    let s = sound bs w e in
+    let s = hypermap bs w e in
     let h = whole bs w e in
     let f = foretold bs w e in
     let m = mostDartsLaw w (contentsOf bs .commands) s (h .0) in

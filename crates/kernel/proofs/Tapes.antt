@@ -11,24 +11,24 @@ use borrow.Author.Tests.{eq-eqb, ne-eqb, le-leb, lt-leb, leb-true, leb-false}
 use Rattle.hypermap.proofs.Basics.Bools.{byCases}
 use Rattle.table.specs.Refusals.{wrongSize, shortRoom, unless}
 use Rattle.table.specs.Layout.{Table}
-use Rattle.table.proofs.Faults.{refusedFirst, refusedSecond}
+use Rattle.table.proofs.Stages.{refusedFirst, refusedSecond}
 use Rattle.tape.specs.Runs.{Outcome, stopped, runOf, toldOf}
 use Rattle.writer.specs.Canonical.{tapeOf}
 use Rattle.writer.specs.Inner.{writtenOf, writtenLeaves}
 use Rattle.tape.specs.declared.Run.{Run}
 use Rattle.writer.specs.declared.Written.{Written}
-use Rattle.kernel.specs.Calls.{tableFault}
-use Rattle.kernel.specs.Tapes.{maxTape, tapeFault, playFault, playOutcome, tapeAnswer, tapeLeaves}
+use Rattle.kernel.specs.Calls.{tableRefusal}
+use Rattle.kernel.specs.Tapes.{maxTape, tapeRefusal, playRefusal, playOutcome, tapeAnswer, tapeLeaves}
 use Rattle.kernel.specs.declared.Answer.{Answer}
 use Rattle.kernel.proofs.Answering.{listShort, listWritten}
 
 -- THE TAPE's size
-pub tapeLong : (bs : List ℕ) → maxTape < length bs → wrongSize ≡ tapeFault bs
-unfolding tapeFault unless
+pub tapeLong : (bs : List ℕ) → maxTape < length bs → wrongSize ≡ tapeRefusal bs
+unfolding tapeRefusal unless
 tapeLong bs l = rw (lt-leb (length bs) maxTape l)
 
-pub tapeShort : (bs : List ℕ) → length bs ≤ maxTape → tapeFault bs ≡ 0
-unfolding tapeFault unless
+pub tapeShort : (bs : List ℕ) → length bs ≤ maxTape → tapeRefusal bs ≡ 0
+unfolding tapeRefusal unless
 tapeShort bs l = rw (le-leb (length bs) maxTape l)
 
 -- A RUN
@@ -39,29 +39,29 @@ answered : (w : Table) (bs : List ℕ) (o : Outcome) → o ≡ playOutcome w bs 
 answered w bs o e = (ap toldOf e, ap (λ p. p .table) e)
 
 stops :
-    (w : Table) (bs : List ℕ) (f : ℕ) → f ≡ playFault w bs → (f ≡ 0 → ⊥) → Answers w bs (stopped f w)
+    (w : Table) (bs : List ℕ) (f : ℕ) → f ≡ playRefusal w bs → (f ≡ 0 → ⊥) → Answers w bs (stopped f w)
 unfolding playOutcome
 stops w bs f e z =
-    answered w bs (stopped f w) (rw (ne-eqb (playFault w bs) 0 (λ q. z (e ∙ q))) (ap (λ n. stopped n w) e))
+    answered w bs (stopped f w) (rw (ne-eqb (playRefusal w bs) 0 (λ q. z (e ∙ q))) (ap (λ n. stopped n w) e))
 
 module _ (w : Table) (bs : List ℕ) where
   pub playLong : maxTape < length bs → Answers w bs (stopped wrongSize w)
-  unfolding playFault
+  unfolding playRefusal
   playLong l =
       let some : wrongSize ≡ 0 → ⊥ = λ e. absurd (omega arith) in
-      stops w bs wrongSize (refusedFirst (tapeFault bs) (tableFault w) wrongSize (tapeLong bs l) some) some
+      stops w bs wrongSize (refusedFirst (tapeRefusal bs) (tableRefusal w) wrongSize (tapeLong bs l) some) some
 
-  module _ (l : length bs ≤ maxTape) (f : ℕ) (e : f ≡ tableFault w) where
-    fault : f ≡ playFault w bs
-    unfolding playFault
-    fault = refusedSecond (tapeFault bs) (tableFault w) (tapeFault bs) f refl (tapeShort bs l) e
+  module _ (l : length bs ≤ maxTape) (f : ℕ) (e : f ≡ tableRefusal w) where
+    refusal : f ≡ playRefusal w bs
+    unfolding playRefusal
+    refusal = refusedSecond (tapeRefusal bs) (tableRefusal w) (tapeRefusal bs) f refl (tapeShort bs l) e
 
     pub playBent : (f ≡ 0 → ⊥) → Answers w bs (stopped f w)
-    playBent z = stops w bs f fault z
+    playBent z = stops w bs f refusal z
 
     pub played : f ≡ 0 → playOutcome w bs ≡ runOf w bs
     unfolding playOutcome
-    played z = rw (eq-eqb (playFault w bs) 0 (sym fault ∙ z))
+    played z = rw (eq-eqb (playRefusal w bs) 0 (sym refusal ∙ z))
 
     pub playRun :
         f ≡ 0 → (r : Run) (v : Table) → (r ≡ toldOf (runOf w bs)) × (v ≡ runOf w bs .table) →
@@ -70,7 +70,7 @@ module _ (w : Table) (bs : List ℕ) where
 
 -- A WRITTEN TAPE
 pub tapeWritten :
-    (w : Table) (o : List ℕ) (f : ℕ) → f ≡ tableFault w → f ≡ 0 → (t : Written) (v : List ℕ) →
+    (w : Table) (o : List ℕ) (f : ℕ) → f ≡ tableRefusal w → f ≡ 0 → (t : Written) (v : List ℕ) →
     (t ≡ writtenOf (tapeOf w) o) × (v ≡ writtenLeaves (tapeOf w) o) →
     (record { number = t .number; yes = false; count = t .count } ≡ tapeAnswer w o) × (v ≡ tapeLeaves w o)
 unfolding writtenOf writtenLeaves
@@ -79,12 +79,12 @@ tapeWritten w o f e z t v p =
     (λ y.
     let q : t ≡ record { number = 0; count = length (tapeOf w) } = rw y at (p .0) in
     let l = length (tapeOf w) in
-    let a = listWritten (tableFault w) (tapeOf w) o f e l v z (leb-true _ _ y) refl (rw y at (p .1)) in
+    let a = listWritten (tableRefusal w) (tapeOf w) o f e l v z (leb-true _ _ y) refl (rw y at (p .1)) in
     (ap told q ∙ a .0, a .1))
     (λ n.
     let q : t ≡ record { number = shortRoom; count = 0 } = rw n at (p .0) in
     let s : v ≡ o = rw n at (p .1) in
-    let a = listShort (tableFault w) (tapeOf w) o f e (told (record { number = shortRoom; count = 0 })) refl z
+    let a = listShort (tableRefusal w) (tapeOf w) o f e (told (record { number = shortRoom; count = 0 })) refl z
     (leb-false _ _ n) in
     (ap told q ∙ a .0, s ∙ a .1))
   where

@@ -21,9 +21,9 @@ use Rattle.hypermap.proofs.Laws.Joins.{joinLaw}
 use Rattle.table.specs.Layout.{Table, hypermapOf}
 use Rattle.table.specs.Commands.{joins, swapped, isTogether}
 use Rattle.table.specs.Laws.{IsSwapped}
-use Rattle.table.proofs.Soundness.{memPresent, soundHypermap, dartsFew}
+use Rattle.table.proofs.Holding.{memPresent, tableHypermap, dartsFew}
 use Rattle.table.proofs.Swaps.{swapLaw}
-use Rattle.kernel.specs.Calls.{tableFault, reportOf}
+use Rattle.kernel.specs.Calls.{tableRefusal, reportOf}
 use Rattle.kernel.specs.Demands.{GenusReported, GenusDemand, JoinsFreely, JoinDemand, ThirdDemand}
 use Rattle.kernel.proofs.Judging.{tablePassed, tableFits, sizeStays, planReported, reportPassed, callPassed}
 use Rattle.table.proofs.Accepting.{Joined, joinPassed}
@@ -31,9 +31,9 @@ use Rattle.kernel.proofs.Judging.{acceptedLeaves}
 use Rattle.kernel.proofs.RingDemand.{ringDemand, componentRingDemand}
 
 -- THE GENUS
-module _ (w : Table) (t : tableFault w ≡ 0) where
+module _ (w : Table) (t : tableRefusal w ≡ 0) where
   wf : isHypermap (hypermapOf w) ≡ true
-  wf = soundHypermap w (tablePassed w t .sound)
+  wf = tableHypermap w (tablePassed w t .hypermap)
 
   fewDarts : length (hypermapOf w .darts) ≤ 4096
   fewDarts = omega (arith, dartsFew w, tablePassed w t .room)
@@ -65,15 +65,15 @@ pub genusDemand : GenusDemand
 genusDemand w e = genusReported w (reportPassed w e)
 
 -- THE JOINS
-module _ (w : Table) (k : Dimension) (a b : ℕ) (t : tableFault w ≡ 0) (j : Joined w k a b) where
+module _ (w : Table) (k : Dimension) (a b : ℕ) (t : tableRefusal w ≡ 0) (j : Joined w k a b) where
   abbrev v : Table
   v = swapped k a b w
 
   s : IsSwapped w k a b
-  s = swapLaw w (tablePassed w t .sound) k a b (j .first) (j .second)
+  s = swapLaw w (tablePassed w t .hypermap) k a b (j .first) (j .second)
 
-  fits : tableFault v ≡ 0
-  fits = tableFits v (sizeStays v w (s .size) (tablePassed w t .size)) (s .sound)
+  fits : tableRefusal v ≡ 0
+  fits = tableFits v (sizeStays v w (s .size) (tablePassed w t .size)) (s .hypermap)
 
   inA : isDart (hypermapOf w) a ≡ true
   inA = memPresent w a ∙ j .first
@@ -86,7 +86,7 @@ module _ (w : Table) (k : Dimension) (a b : ℕ) (t : tableFault w ≡ 0) (j : J
 
   sameGenus : genus (hypermapOf v) ≡ genus (change k a b (hypermapOf w))
   sameGenus =
-      agree (change k a b (hypermapOf w)) (hypermapOf v) changed (soundHypermap v (s .sound)) (s .holds .darts)
+      agree (change k a b (hypermapOf w)) (hypermapOf v) changed (tableHypermap v (s .hypermap)) (s .holds .darts)
       (s .holds .next) (s .holds .back) .sameGenus
 
   freely : JoinsFreely w k a b ↔ keepsGenus (hypermapOf w) k a b ≡ true

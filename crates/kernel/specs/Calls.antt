@@ -8,8 +8,8 @@ use lib.IntN.{pos}
 use lib.ListN.{length, take, drop}
 use Rattle.hypermap.specs.Hypermap.{Hypermap, orbitOf, componentAt}
 use Rattle.table.specs.Refusals.{wrongSize, bentTable, shortRoom, orElse, unless}
-use Rattle.table.specs.Layout.{Table, wordsPerDart, place, isSound, hypermapOf}
-use Rattle.table.specs.Commands.{Command, presenceFault, commandFault, commandOn, leaves}
+use Rattle.table.specs.Layout.{Table, wordsPerDart, place, holdsHypermap, hypermapOf}
+use Rattle.table.specs.Commands.{Command, presenceRefusal, commandRefusal, commandOn, leaves}
 use Rattle.table.specs.Inner.{kindOf}
 use Rattle.table.specs.declared.Orbit.{Orbit}
 use Rattle.parts.specs.Marks.{componentMarks}
@@ -17,7 +17,7 @@ use Rattle.parts.specs.Counts.{countsOf}
 use Rattle.parts.specs.Sharing.{isSame}
 use Rattle.parts.specs.declared.Counts.{Counts}
 use Rattle.parts.specs.declared.Part.{Part}
-use Rattle.rings.specs.Rings.{linksOf, ringFault, cutAlong}
+use Rattle.rings.specs.Rings.{linksOf, ringRefusal, cutAlong}
 use Rattle.kernel.specs.declared.Totals.{Totals}
 use Rattle.kernel.specs.declared.Answer.{Answer}
 
@@ -28,22 +28,22 @@ maxCapacity = 4096
 unfoldable pub sizeFits : Table → Bool
 sizeFits w = eqb (length w % wordsPerDart) 0 && leb (length w) (wordsPerDart * maxCapacity)
 
-unfoldable pub tableFault : Table → ℕ
-tableFault w = orElse (unless (sizeFits w) wrongSize) (unless (isSound w) bentTable)
+unfoldable pub tableRefusal : Table → ℕ
+tableRefusal w = orElse (unless (sizeFits w) wrongSize) (unless (holdsHypermap w) bentTable)
 
 -- COMMANDS
-unfoldable pub callFault : Table → Command → ℕ
-callFault w c = orElse (tableFault w) (commandFault w c)
+unfoldable pub callRefusal : Table → Command → ℕ
+callRefusal w c = orElse (tableRefusal w) (commandRefusal w c)
 
 unfoldable pub callLeaves : Table → Command → Table
-callLeaves w c = leaves (callFault w c) (commandOn w c) w
+callLeaves w c = leaves (callRefusal w c) (commandOn w c) w
 
 -- A RING, lent as a list of words
-unfoldable pub ringCallFault : Table → (ring : List ℕ) → ℕ
-ringCallFault w ws = orElse (tableFault w) (ringFault w ws)
+unfoldable pub ringCallRefusal : Table → (ring : List ℕ) → ℕ
+ringCallRefusal w ws = orElse (tableRefusal w) (ringRefusal w ws)
 
 unfoldable pub ringCallLeaves : Table → (ring : List ℕ) → Table
-ringCallLeaves w ws = leaves (ringCallFault w ws) (cutAlong (linksOf ws) w) w
+ringCallLeaves w ws = leaves (ringCallRefusal w ws) (cutAlong (linksOf ws) w) w
 
 -- A REPORT: the refusal and zeros, or 0 and the counts of a hypermap
 abbrev pub refusedTotals : (number : ℕ) → Totals
@@ -78,55 +78,55 @@ unfoldable pub reportOn : (refusal : ℕ) → Hypermap → Totals
 reportOn n m = cond (eqb n 0) (totalsOf (countsOf m)) (refusedTotals n)
 
 abbrev pub reportOf : Table → Totals
-reportOf w = reportOn (tableFault w) (hypermapOf w)
+reportOf w = reportOn (tableRefusal w) (hypermapOf w)
 
 -- QUESTIONS about darts of the table
-unfoldable pub questionFault : Table → (named : List ℕ) → ℕ
-questionFault w xs = orElse (tableFault w) (presenceFault w xs)
+unfoldable pub questionRefusal : Table → (named : List ℕ) → ℕ
+questionRefusal w xs = orElse (tableRefusal w) (presenceRefusal w xs)
 
 -- the report of one component by itself
 abbrev pub componentReportOf : Table → (x : ℕ) → Totals
-componentReportOf w x = reportOn (questionFault w (x ∷ [])) (componentAt (hypermapOf w) x)
+componentReportOf w x = reportOn (questionRefusal w (x ∷ [])) (componentAt (hypermapOf w) x)
 
-abbrev pub refusalOf : (number : ℕ) → Answer
-refusalOf n = record { number = n; yes = false; count = 0 }
+abbrev pub refusedAnswer : (number : ℕ) → Answer
+refusedAnswer n = record { number = n; yes = false; count = 0 }
 
 -- a refusal with all else zero, or 0 with what was asked
 unfoldable pub answer : (refusal : ℕ) → (yes : Bool) → (count : ℕ) → Answer
-answer n t k = cond (eqb n 0) (record { number = 0; yes = t; count = k }) (refusalOf n)
+answer n t k = cond (eqb n 0) (record { number = 0; yes = t; count = k }) (refusedAnswer n)
 
 -- the papers leave the count of this answer free: it is 0
 unfoldable pub sameAnswer : Table → Part → (a b : ℕ) → Answer
-sameAnswer w p a b = answer (questionFault w (a ∷ b ∷ [])) (isSame w p a b) 0
+sameAnswer w p a b = answer (questionRefusal w (a ∷ b ∷ [])) (isSame w p a b) 0
 
 -- LISTS into a lent buffer: 14 where it is shorter than the list, after the refusal n
-unfoldable pub listFault : (n : ℕ) → (list out : List ℕ) → ℕ
-listFault n xs o = orElse n (unless (leb (length xs) (length o)) shortRoom)
+unfoldable pub listRefusal : (n : ℕ) → (list out : List ℕ) → ℕ
+listRefusal n xs o = orElse n (unless (leb (length xs) (length o)) shortRoom)
 
 -- the list, and the buffer's words past it
 unfoldable pub listLeaves : (n : ℕ) → (list out : List ℕ) → List ℕ
-listLeaves n xs o = cond (eqb (listFault n xs o) 0) (xs ++ drop (length xs) o) o
+listLeaves n xs o = cond (eqb (listRefusal n xs o) 0) (xs ++ drop (length xs) o) o
 
 unfoldable pub listAnswer : (n : ℕ) → (list out : List ℕ) → Answer
-listAnswer n xs o = answer (listFault n xs o) false (length xs)
+listAnswer n xs o = answer (listRefusal n xs o) false (length xs)
 
 -- an edge, a vertex or a face in walking order
 abbrev pub roundOf : Table → Orbit → (x : ℕ) → List ℕ
 roundOf w k x = orbitOf (hypermapOf w) (kindOf k) x
 
 abbrev pub roundAnswer : Table → Orbit → (x : ℕ) → (out : List ℕ) → Answer
-roundAnswer w k x o = listAnswer (questionFault w (x ∷ [])) (roundOf w k x) o
+roundAnswer w k x o = listAnswer (questionRefusal w (x ∷ [])) (roundOf w k x) o
 
 abbrev pub roundLeaves : Table → Orbit → (x : ℕ) → (out : List ℕ) → List ℕ
-roundLeaves w k x o = listLeaves (questionFault w (x ∷ [])) (roundOf w k x) o
+roundLeaves w k x o = listLeaves (questionRefusal w (x ∷ [])) (roundOf w k x) o
 
 -- the papers leave the count of the marks free: it is the capacity, as many as there are marks
 abbrev pub marksAnswer : Table → (out : List ℕ) → Answer
-marksAnswer w o = listAnswer (tableFault w) (componentMarks w) o
+marksAnswer w o = listAnswer (tableRefusal w) (componentMarks w) o
 
 abbrev pub marksLeaves : Table → (out : List ℕ) → List ℕ
-marksLeaves w o = listLeaves (tableFault w) (componentMarks w) o
+marksLeaves w o = listLeaves (tableRefusal w) (componentMarks w) o
 
 -- A LOOK: a dart's words in the table, empty where "same edge as itself" is refused
 unfoldable pub lookOf : Table → (x : ℕ) → List ℕ
-lookOf w x = cond (eqb (questionFault w (x ∷ x ∷ [])) 0) (take wordsPerDart (drop (place x 0) w)) []
+lookOf w x = cond (eqb (questionRefusal w (x ∷ x ∷ [])) 0) (take wordsPerDart (drop (place x 0) w)) []

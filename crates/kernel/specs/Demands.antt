@@ -34,10 +34,10 @@ use Rattle.tape.specs.Runs.{stopped}
 use Rattle.writer.specs.Canonical.{tapeOf}
 use Rattle.tape.specs.Laws.{IsRun}
 use Rattle.writer.specs.Laws.{IsBuilt}
-use Rattle.kernel.specs.Calls.{tableFault, callFault, callLeaves, reportOf, totalsOf, refusedTotals}
-use Rattle.kernel.specs.Calls.{ringCallFault, ringCallLeaves, componentReportOf, refusalOf, sameAnswer}
+use Rattle.kernel.specs.Calls.{tableRefusal, callRefusal, callLeaves, reportOf, totalsOf, refusedTotals}
+use Rattle.kernel.specs.Calls.{ringCallRefusal, ringCallLeaves, componentReportOf, refusedAnswer, sameAnswer}
 use Rattle.kernel.specs.Calls.{roundOf, roundAnswer, roundLeaves, marksAnswer, marksLeaves, lookOf}
-use Rattle.kernel.specs.Tapes.{playFault, playOutcome, tapeAnswer, tapeLeaves, screenFault, screenLeaves}
+use Rattle.kernel.specs.Tapes.{playRefusal, playOutcome, tapeAnswer, tapeLeaves, screenRefusal, screenLeaves}
 use Rattle.kernel.specs.declared.Answer.{Answer}
 use Rattle.kernel.specs.declared.Totals.{Totals}
 
@@ -54,7 +54,7 @@ pub record Refuses (number : ℕ) (numbers before after : List ℕ) : Type 0 whe
 -- a refused answer has all else zero
 pub record RefusesAnswer (a : Answer) (numbers : List ℕ) : Type 0 where
   pub one : OneOf (a .number) numbers
-  pub zeros : (a .number ≡ 0 → ⊥) → a ≡ refusalOf (a .number)
+  pub zeros : (a .number ≡ 0 → ⊥) → a ≡ refusedAnswer (a .number)
 
 -- and a refused report
 pub record RefusesReport (t : Totals) (numbers : List ℕ) : Type 0 where
@@ -84,8 +84,8 @@ runNumbers =
     gapTwice ∷ pathBroken ∷ unknownCommand ∷ tornCommand ∷ []
 
 pub record FirstDemand : Type 0 where
-  pub commands : (w : Table) (c : Command) → Refuses (callFault w c) (commandNumbers c) w (callLeaves w c)
-  pub rings : (w : Table) (ring : List ℕ) → Refuses (ringCallFault w ring) ringNumbers w (ringCallLeaves w ring)
+  pub commands : (w : Table) (c : Command) → Refuses (callRefusal w c) (commandNumbers c) w (callLeaves w c)
+  pub rings : (w : Table) (ring : List ℕ) → Refuses (ringCallRefusal w ring) ringNumbers w (ringCallLeaves w ring)
   pub report : (w : Table) → RefusesReport (reportOf w) tableNumbers
   pub componentReport : (w : Table) (x : ℕ) → RefusesReport (componentReportOf w x) dartNumbers
   pub same : (w : Table) (p : Part) (a b : ℕ) → RefusesAnswer (sameAnswer w p a b) dartNumbers
@@ -99,38 +99,38 @@ pub record FirstDemand : Type 0 where
   -- "the part is empty, in place of a number, exactly where the question "same tie as itself" is refused"
   pub look : (w : Table) (x : ℕ) → (lookOf w x ≡ []) ↔ (sameAnswer w Edge x x .number ≡ 0 → ⊥)
   -- "only a tape run keeps the commands accepted before the refused one, and tells how many"
-  pub unplayed : (w : Table) (tape : List ℕ) → OneOf (playFault w tape) tableNumbers
+  pub unplayed : (w : Table) (tape : List ℕ) → OneOf (playRefusal w tape) tableNumbers
   pub run : (w : Table) (tape : List ℕ) → OneOf (playOutcome w tape .number) runNumbers
   pub played :
       (w : Table) (tape : List ℕ) →
-      ((playFault w tape ≡ 0 → ⊥) → playOutcome w tape ≡ stopped (playFault w tape) w) ×
-      (playFault w tape ≡ 0 → IsRun w (contentsOf tape .commands) (contentsOf tape .refusal) (playOutcome w tape))
+      ((playRefusal w tape ≡ 0 → ⊥) → playOutcome w tape ≡ stopped (playRefusal w tape) w) ×
+      (playRefusal w tape ≡ 0 → IsRun w (contentsOf tape .commands) (contentsOf tape .refusal) (playOutcome w tape))
   pub tapes :
       (w : Table) (out : List ℕ) → RefusesAnswer (tapeAnswer w out) (tableNumbers ++ (shortRoom ∷ [])) ×
       ((tapeAnswer w out .number ≡ 0 → ⊥) → tapeLeaves w out ≡ out)
   pub screen :
       (tape out : List ℕ) →
-      Refuses (screenFault tape out) (wrongSize ∷ shortRoom ∷ []) out (screenLeaves tape out)
+      Refuses (screenRefusal tape out) (wrongSize ∷ shortRoom ∷ []) out (screenLeaves tape out)
 
 -- DEMAND 2. "Each join, cut, ring cut, question and count is what the published definition of a hypermap says." A table
 -- that passes 1 and 2 holds a hypermap; `Theory` ties what is computed of it to 002's words, and TableLaw says that no
 -- other table of its size holds the same
 abbrev pub JoinsBy : Table → Dimension → (a b : ℕ) → Type 0
 JoinsBy w k a b =
-    (callFault w (joins k a b) ≡ 0) ↔
-    ((tableFault w ≡ 0) × (isDart (hypermapOf w) a ≡ true) × (isDart (hypermapOf w) b ≡ true) ×
+    (callRefusal w (joins k a b) ≡ 0) ↔
+    ((tableRefusal w ≡ 0) × (isDart (hypermapOf w) a ≡ true) × (isDart (hypermapOf w) b ≡ true) ×
     (sameOrbit (hypermapOf w) (of k) a b ≡ false))
 
 abbrev pub CutsBy : Table → Dimension → (a b : ℕ) → Type 0
 CutsBy w k a b =
-    (callFault w (cuts k a b) ≡ 0) ↔
-    ((tableFault w ≡ 0) × (isDart (hypermapOf w) a ≡ true) × (isDart (hypermapOf w) b ≡ true) ×
+    (callRefusal w (cuts k a b) ≡ 0) ↔
+    ((tableRefusal w ≡ 0) × (isDart (hypermapOf w) a ≡ true) × (isDart (hypermapOf w) b ≡ true) ×
     (sameOrbit (hypermapOf w) (of k) a b ≡ true) × (a ≡ b → ⊥))
 
 abbrev pub RingsBy : Table → (ring : List ℕ) → Type 0
 RingsBy w ws =
-    (ringCallFault w ws ≡ 0) ↔
-    ((tableFault w ≡ 0) × (isList ws ≡ true) × (isRingOf (hypermapOf w) (linksOf ws) ≡ true))
+    (ringCallRefusal w ws ≡ 0) ↔
+    ((tableRefusal w ≡ 0) × (isList ws ≡ true) × (isRingOf (hypermapOf w) (linksOf ws) ≡ true))
 
 -- what two darts share, by 2.2
 abbrev pub Shares : Hypermap → Part → (a b : ℕ) → Type 0
@@ -145,20 +145,20 @@ pub record IsRound (w : Table) (o : Orbit) (x : ℕ) (out : List ℕ) : Type 0 w
   pub written : roundLeaves w o x out ≡ roundOf w o x ++ drop (length (roundOf w o x)) out
 
 pub record SecondDemand : Type 0 where
-  pub hypermap : (w : Table) → tableFault w ≡ 0 → isHypermap (hypermapOf w) ≡ true
+  pub hypermap : (w : Table) → tableRefusal w ≡ 0 → isHypermap (hypermapOf w) ≡ true
   pub table : TableLaw
   pub theory : Theory
   pub joinAccepted : (w : Table) (k : Dimension) (a b : ℕ) → JoinsBy w k a b
   pub joinChanges :
-      (w : Table) (k : Dimension) (a b : ℕ) → callFault w (joins k a b) ≡ 0 →
+      (w : Table) (k : Dimension) (a b : ℕ) → callRefusal w (joins k a b) ≡ 0 →
       Holds (callLeaves w (joins k a b)) (change k a b (hypermapOf w))
   pub cutAccepted : (w : Table) (k : Dimension) (a b : ℕ) → CutsBy w k a b
   pub cutChanges :
-      (w : Table) (k : Dimension) (a b : ℕ) → callFault w (cuts k a b) ≡ 0 →
+      (w : Table) (k : Dimension) (a b : ℕ) → callRefusal w (cuts k a b) ≡ 0 →
       Holds (callLeaves w (cuts k a b)) (change k a b (hypermapOf w))
   pub ringAccepted : (w : Table) (ring : List ℕ) → RingsBy w ring
   pub ringBreaks :
-      (w : Table) (ring : List ℕ) → ringCallFault w ring ≡ 0 →
+      (w : Table) (ring : List ℕ) → ringCallRefusal w ring ≡ 0 →
       Holds (ringCallLeaves w ring) (breakAlong (linksOf ring) (hypermapOf w))
   pub same :
       (w : Table) (p : Part) (a b : ℕ) → sameAnswer w p a b .number ≡ 0 →
@@ -171,11 +171,11 @@ pub record SecondDemand : Type 0 where
       componentReportOf w x ≡ totalsOf (countsOf (componentAt (hypermapOf w) x))
   -- "A written tape, played on an empty table of the same size, builds the same plan": accepted whole, each of its
   -- commands counted; "At most 53,238 bytes"
-  pub built : (w : Table) → tableFault w ≡ 0 → IsBuilt w (playOutcome (replicate (length w) 0) (tapeOf w))
-  pub short : (w : Table) → tableFault w ≡ 0 → length (tapeOf w) ≤ 53238
+  pub built : (w : Table) → tableRefusal w ≡ 0 → IsBuilt w (playOutcome (replicate (length w) 0) (tapeOf w))
+  pub short : (w : Table) → tableRefusal w ≡ 0 → length (tapeOf w) ≤ 53238
   -- "and unequal plans of one size never share a tape"
   pub onlyTape :
-      (v w : Table) → tableFault v ≡ 0 → tableFault w ≡ 0 → length v ≡ length w → tapeOf v ≡ tapeOf w → v ≡ w
+      (v w : Table) → tableRefusal v ≡ 0 → tableRefusal w ≡ 0 → length v ≡ length w → tapeOf v ≡ tapeOf w → v ≡ w
 
 -- DEMAND 3
 -- "For every sound plan, twice its pieces less its characteristic is even and never negative; half of it is the
@@ -198,7 +198,7 @@ JoinsFreely w k a b =
 -- after it give
 abbrev pub JoinDemand : Type 0
 JoinDemand =
-    (w : Table) (k : Dimension) (a b : ℕ) → callFault w (joins k a b) ≡ 0 →
+    (w : Table) (k : Dimension) (a b : ℕ) → callRefusal w (joins k a b) ≡ 0 →
     (reportOf (callLeaves w (joins k a b)) .number ≡ 0) ×
     (reportOf (callLeaves w (joins k a b)) .genus ≡ reportOf w .genus ↔ JoinsFreely w k a b) ×
     ((JoinsFreely w k a b → ⊥) → reportOf (callLeaves w (joins k a b)) .genus ≡ suc (reportOf w .genus))
@@ -217,7 +217,7 @@ pub record IsPartedByReports (w v : Table) (l : DoubleLink) (ls : List DoubleLin
 
 abbrev pub ComponentRingDemand : Type 0
 ComponentRingDemand =
-    (w : Table) (ring : List ℕ) (l : DoubleLink) (ls : List DoubleLink) → ringCallFault w ring ≡ 0 →
+    (w : Table) (ring : List ℕ) (l : DoubleLink) (ls : List DoubleLink) → ringCallRefusal w ring ≡ 0 →
     linksOf ring ≡ l ∷ ls → componentReportOf w (l .first) .genus ≡ 0 →
     IsPartedByReports w (ringCallLeaves w ring) l ls
 
@@ -233,7 +233,7 @@ pub record IsRingCut (w v : Table) (ring : List ℕ) : Type 0 where
 -- the plan stays flat": flat by the reports before and after it
 abbrev pub RingDemand : Type 0
 RingDemand =
-    (w : Table) (ring : List ℕ) → ringCallFault w ring ≡ 0 → reportOf w .genus ≡ 0 →
+    (w : Table) (ring : List ℕ) → ringCallRefusal w ring ≡ 0 → reportOf w .genus ≡ 0 →
     IsRingCut w (ringCallLeaves w ring) ring × (reportOf (ringCallLeaves w ring) .number ≡ 0) ×
     (reportOf (ringCallLeaves w ring) .components ≡ suc (reportOf w .components)) ×
     (reportOf (ringCallLeaves w ring) .genus ≡ 0)

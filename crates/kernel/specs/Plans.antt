@@ -14,7 +14,7 @@ use Rattle.parts.specs.Marks.{componentMarks}
 use Rattle.tape.specs.Steps.{TapeCommand, changes, reports, cutsRing}
 use Rattle.writer.specs.Canonical.{tapeOf}
 use Rattle.writer.specs.Screens.{twosComplement}
-use Rattle.kernel.specs.Calls.{callFault, callLeaves, ringCallFault, ringCallLeaves, reportOf, roundOf}
+use Rattle.kernel.specs.Calls.{callRefusal, callLeaves, ringCallRefusal, ringCallLeaves, reportOf, roundOf}
 use Rattle.kernel.specs.Tapes.{emptyTable}
 use Rattle.kernel.specs.declared.Totals.{Totals}
 
@@ -36,10 +36,10 @@ pub record Row : Type 0 where
   pub plan : Plan
 
 -- THE CALL that a command is, and what it leaves
-abbrev pub faultOf : Table → TapeCommand → ℕ
-faultOf w (changes c) = callFault w c
-faultOf w reports = reportOf w .number
-faultOf w (cutsRing ws) = ringCallFault w ws
+abbrev pub refusalBy : Table → TapeCommand → ℕ
+refusalBy w (changes c) = callRefusal w c
+refusalBy w reports = reportOf w .number
+refusalBy w (cutsRing ws) = ringCallRefusal w ws
 
 abbrev pub leftBy : Table → TapeCommand → Table
 leftBy w (changes c) = callLeaves w c
@@ -79,12 +79,12 @@ planFits w p =
 
 abbrev pub triedFits : Table → Row → Bool
 triedFits w r =
-    eqb (faultOf w (r .tried)) (r .refusal) && sameNumbers (marksOf w (r .tried)) (r .marks) &&
+    eqb (refusalBy w (r .tried)) (r .refusal) && sameNumbers (marksOf w (r .tried)) (r .marks) &&
     planFits (leftBy w (r .tried)) (r .plan)
 
 unfoldable pub rowFits : Table → (setUp : List TapeCommand) → Row → Bool
 rowFits w [] r = triedFits w r
-rowFits w (c ∷ cs) r = eqb (faultOf w c) 0 && rowFits (leftBy w c) cs r
+rowFits w (c ∷ cs) r = eqb (refusalBy w c) 0 && rowFits (leftBy w c) cs r
 
 unfoldable pub allFit : List Row → Bool
 allFit [] = true

@@ -5,7 +5,7 @@ use Prim.Native.Nat.{ℕ, _≤_}
 use lib.ListN.{length}
 use Rattle.table.specs.Layout.{Table, capacity}
 use Rattle.table.specs.declared.Orbit.{Orbit}
-use Rattle.kernel.specs.Calls.{maxCapacity, questionFault, roundAnswer}
+use Rattle.kernel.specs.Calls.{maxCapacity, questionRefusal, roundAnswer}
 
 pub record RoundPromise : Type 0 where
   pub most :
@@ -14,4 +14,4 @@ pub record RoundPromise : Type 0 where
   -- so a buffer with a word for each number of the table is never too short
   pub room :
       (w : Table) (o : Orbit) (x : ℕ) (out : List ℕ) → capacity w ≤ length out →
-      roundAnswer w o x out .number ≡ questionFault w (x ∷ [])
+      roundAnswer w o x out .number ≡ questionRefusal w (x ∷ [])

@@ -12,12 +12,12 @@ use Rattle.tape.specs.Tapes.{contentsOf}
 use Rattle.needs.specs.Amounts.{refusedNeeds, neededBy}
 use Rattle.needs.specs.Laws.{NoneOff, IsPeak, mostDarts, changedOn}
 use Rattle.needs.specs.declared.Needs.{Needs}
-use Rattle.kernel.specs.Tapes.{maxTape, tapeFault, playOutcome, emptyTable}
+use Rattle.kernel.specs.Tapes.{maxTape, tapeRefusal, playOutcome, emptyTable}
 use Rattle.kernel.specs.Demands.{OneOf}
 
 -- 1 for the tape, then the first 15 or 16
 unfoldable pub needsAnswer : (tape : List ℕ) → Needs
-needsAnswer bs = cond (eqb (tapeFault bs) 0) (neededBy (contentsOf bs)) (refusedNeeds (tapeFault bs))
+needsAnswer bs = cond (eqb (tapeRefusal bs) 0) (neededBy (contentsOf bs)) (refusedNeeds (tapeRefusal bs))
 
 -- "If a run from empty accepts every command, the most tabs present at any moment and the words changed, counted
 -- command by command and crossing by crossing, equal these"

@@ -1,25 +1,25 @@
 // Answers as the calls give them: a refusal with all else zero, or 0 and the numbers of a report.
 ghost use mathlib.Core.Path.{_≡_};
-ghost use Rattle.kernel.specs.Calls.{refusalOf, refusedTotals, totalsOf};
+ghost use Rattle.kernel.specs.Calls.{refusedAnswer, refusedTotals, totalsOf};
 use crate::Answer;
 use crate::Totals;
 use parts::Counts;
 
-pub fn refused(fault: u8) -> Answer
-    ensures { λ r. ⌜ r ≡ refusalOf fault ⌝ }
+pub fn refused(refusal: u8) -> Answer
+    ensures { λ r. ⌜ r ≡ refusedAnswer refusal ⌝ }
 {
     Answer {
-        number: fault,
+        number: refusal,
         yes: false,
         count: 0,
     }
 }
 
-pub fn refused_totals(fault: u8) -> Totals
-    ensures { λ r. ⌜ r ≡ refusedTotals fault ⌝ }
+pub fn refused_totals(refusal: u8) -> Totals
+    ensures { λ r. ⌜ r ≡ refusedTotals refusal ⌝ }
 {
     Totals {
-        number: fault,
+        number: refusal,
         darts: 0,
         edges: 0,
         vertices: 0,

@@ -1,10 +1,10 @@
 // What is judged before anything else: the size of the table, its soundness, and then the darts that a question names.
 ghost use mathlib.Core.Path.{_≡_};
 ghost use mathlib.Core.List.{[], _∷_};
-ghost use Rattle.kernel.specs.Calls.{sizeFits, tableFault, questionFault};
-use table::command;
-use table::refusal;
-use table::sound;
+ghost use Rattle.kernel.specs.Calls.{sizeFits, tableRefusal, questionRefusal};
+use table::changes;
+use table::hypermap_test;
+use table::refusals;
 use table::words;
 
 // Darts that a table may have room for.
@@ -17,33 +17,33 @@ fn size_fits(table: &[u16]) -> bool
 }
 
 // 1 for a wrong size, 2 for a table that is not sound, else 0.
-pub fn table_fault(table: &[u16]) -> u8
-    ensures { λ r. ⌜ r ≡ tableFault (now (table .entry)) ⌝ }
+pub fn table_refusal(table: &[u16]) -> u8
+    ensures { λ r. ⌜ r ≡ tableRefusal (now (table .entry)) ⌝ }
 {
     if !size_fits(table) {
-        return refusal::WRONG_SIZE;
+        return refusals::WRONG_SIZE;
     }
-    refusal::unless_so(sound::is_sound(table), refusal::BENT_TABLE)
+    refusals::unless_so(hypermap_test::holds_hypermap(table), refusals::BENT_TABLE)
 }
 
 // The refusal of a question about one dart.
-pub fn dart_question_fault(table: &[u16], x: u16) -> u8
-    ensures { λ r. ⌜ r ≡ questionFault (now (table .entry)) (x ∷ []) ⌝ }
+pub fn dart_question_refusal(table: &[u16], x: u16) -> u8
+    ensures { λ r. ⌜ r ≡ questionRefusal (now (table .entry)) (x ∷ []) ⌝ }
 {
-    let fault = table_fault(table);
-    if fault != 0 {
-        return fault;
+    let refusal = table_refusal(table);
+    if refusal != 0 {
+        return refusal;
     }
-    command::dart_fault(table, x)
+    changes::dart_refusal(table, x)
 }
 
 // The refusal of a question about two darts.
-pub fn darts_question_fault(table: &[u16], a: u16, b: u16) -> u8
-    ensures { λ r. ⌜ r ≡ questionFault (now (table .entry)) (a ∷ b ∷ []) ⌝ }
+pub fn darts_question_refusal(table: &[u16], a: u16, b: u16) -> u8
+    ensures { λ r. ⌜ r ≡ questionRefusal (now (table .entry)) (a ∷ b ∷ []) ⌝ }
 {
-    let fault = table_fault(table);
-    if fault != 0 {
-        return fault;
+    let refusal = table_refusal(table);
+    if refusal != 0 {
+        return refusal;
     }
-    command::darts_fault(table, a, b)
+    changes::darts_refusal(table, a, b)
 }

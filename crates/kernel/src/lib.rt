@@ -3,11 +3,11 @@
 ghost use mathlib.Core.Path.{_≡_};
 ghost use Rattle.table.specs.Commands.{puts, takesOut, joins, cuts};
 ghost use Rattle.table.specs.Inner.{dimensionOf};
-ghost use Rattle.kernel.specs.Calls.{callFault, callLeaves, ringCallFault, ringCallLeaves, reportOf};
+ghost use Rattle.kernel.specs.Calls.{callRefusal, callLeaves, ringCallRefusal, ringCallLeaves, reportOf};
 ghost use Rattle.kernel.specs.Calls.{componentReportOf, sameAnswer, roundAnswer, roundLeaves, marksAnswer};
 ghost use Rattle.kernel.specs.Calls.{marksLeaves, lookOf};
 ghost use Rattle.tape.specs.Runs.{toldOf};
-ghost use Rattle.kernel.specs.Tapes.{playOutcome, tapeAnswer, tapeLeaves, screenFault, screenLeaves};
+ghost use Rattle.kernel.specs.Tapes.{playOutcome, tapeAnswer, tapeLeaves, screenRefusal, screenLeaves};
 ghost use Rattle.kernel.specs.TapeNeeds.{needsAnswer};
 
 mod answers;
@@ -22,8 +22,8 @@ use parts::share;
 use rings::cut;
 pub use table::Dimension;
 pub use table::Orbit;
-use table::command;
-use table::refusal;
+use table::changes;
+use table::refusals;
 use table::walk;
 use table::words;
 pub use tape::Run;
@@ -63,61 +63,61 @@ const SCREEN_ROOM: usize = 53278;
 
 // Dart x appears, an edge and a vertex by itself.
 pub fn put(table: &mut [u16], x: u16) -> u8
-    ensures { λ r. ⌜ r ≡ callFault (now (table .entry)) (puts x) ⌝ }
+    ensures { λ r. ⌜ r ≡ callRefusal (now (table .entry)) (puts x) ⌝ }
     ensures table { λ r. ⌜ now (table .exit) ≡ callLeaves (now (table .entry)) (puts x) ⌝ }
 {
-    let fault = judge::table_fault(table);
-    if fault != 0 {
-        return fault;
+    let refusal = judge::table_refusal(table);
+    if refusal != 0 {
+        return refusal;
     }
-    command::put(table, x)
+    changes::put(table, x)
 }
 
 // Dart x disappears, which is an edge and a vertex by itself.
 pub fn take_out(table: &mut [u16], x: u16) -> u8
-    ensures { λ r. ⌜ r ≡ callFault (now (table .entry)) (takesOut x) ⌝ }
+    ensures { λ r. ⌜ r ≡ callRefusal (now (table .entry)) (takesOut x) ⌝ }
     ensures table { λ r. ⌜ now (table .exit) ≡ callLeaves (now (table .entry)) (takesOut x) ⌝ }
 {
-    let fault = judge::table_fault(table);
-    if fault != 0 {
-        return fault;
+    let refusal = judge::table_refusal(table);
+    if refusal != 0 {
+        return refusal;
     }
-    command::take_out(table, x)
+    changes::take_out(table, x)
 }
 
 // The edges, or the vertices, of a and b become one.
 pub fn join(table: &mut [u16], d: Dimension, a: u16, b: u16) -> u8
-    ensures { λ r. ⌜ r ≡ callFault (now (table .entry)) (joins (dimensionOf d) a b) ⌝ }
+    ensures { λ r. ⌜ r ≡ callRefusal (now (table .entry)) (joins (dimensionOf d) a b) ⌝ }
     ensures table { λ r. ⌜ now (table .exit) ≡ callLeaves (now (table .entry)) (joins (dimensionOf d) a b) ⌝ }
 {
-    let fault = judge::table_fault(table);
-    if fault != 0 {
-        return fault;
+    let refusal = judge::table_refusal(table);
+    if refusal != 0 {
+        return refusal;
     }
-    command::join(table, d, a, b)
+    changes::join(table, d, a, b)
 }
 
 // The edge, or the vertex, of a and b becomes two, one with a and one with b.
 pub fn cut(table: &mut [u16], d: Dimension, a: u16, b: u16) -> u8
-    ensures { λ r. ⌜ r ≡ callFault (now (table .entry)) (cuts (dimensionOf d) a b) ⌝ }
+    ensures { λ r. ⌜ r ≡ callRefusal (now (table .entry)) (cuts (dimensionOf d) a b) ⌝ }
     ensures table { λ r. ⌜ now (table .exit) ≡ callLeaves (now (table .entry)) (cuts (dimensionOf d) a b) ⌝ }
 {
-    let fault = judge::table_fault(table);
-    if fault != 0 {
-        return fault;
+    let refusal = judge::table_refusal(table);
+    if refusal != 0 {
+        return refusal;
     }
-    command::cut(table, d, a, b)
+    changes::cut(table, d, a, b)
 }
 
 // Cuts the edge of each double-link of a ring, lent as a list of words: the two darts of each double-link in turn.
 // Document 01: the ring cut, crossing by crossing.
 pub fn ring_cut(table: &mut [u16], ring: &[u16]) -> u8
-    ensures { λ r. ⌜ r ≡ ringCallFault (now (table .entry)) (now (ring .entry)) ⌝ }
+    ensures { λ r. ⌜ r ≡ ringCallRefusal (now (table .entry)) (now (ring .entry)) ⌝ }
     ensures table { λ r. ⌜ now (table .exit) ≡ ringCallLeaves (now (table .entry)) (now (ring .entry)) ⌝ }
 {
-    let fault = judge::table_fault(table);
-    if fault != 0 {
-        return fault;
+    let refusal = judge::table_refusal(table);
+    if refusal != 0 {
+        return refusal;
     }
     cut::ring_cut(table, ring)
 }
@@ -129,9 +129,9 @@ pub fn ring_cut(table: &mut [u16], ring: &[u16]) -> u8
 pub fn report(table: &[u16]) -> Totals
     ensures { λ r. ⌜ r ≡ reportOf (now (table .entry)) ⌝ }
 {
-    let fault = judge::table_fault(table);
-    if fault != 0 {
-        return answers::refused_totals(fault);
+    let refusal = judge::table_refusal(table);
+    if refusal != 0 {
+        return answers::refused_totals(refusal);
     }
     answers::totals(count::counts(table))
 }
@@ -140,9 +140,9 @@ pub fn report(table: &[u16]) -> Totals
 pub fn component_report(table: &[u16], x: u16) -> Totals
     ensures { λ r. ⌜ r ≡ componentReportOf (now (table .entry)) x ⌝ }
 {
-    let fault = judge::dart_question_fault(table, x);
-    if fault != 0 {
-        return answers::refused_totals(fault);
+    let refusal = judge::dart_question_refusal(table, x);
+    if refusal != 0 {
+        return answers::refused_totals(refusal);
     }
     answers::totals(count::component_counts(table, x))
 }
@@ -151,9 +151,9 @@ pub fn component_report(table: &[u16], x: u16) -> Totals
 pub fn same(table: &[u16], part: Part, a: u16, b: u16) -> Answer
     ensures { λ r. ⌜ r ≡ sameAnswer (now (table .entry)) part a b ⌝ }
 {
-    let fault = judge::darts_question_fault(table, a, b);
-    if fault != 0 {
-        return answers::refused(fault);
+    let refusal = judge::darts_question_refusal(table, a, b);
+    if refusal != 0 {
+        return answers::refused(refusal);
     }
     Answer {
         number: 0,
@@ -167,13 +167,13 @@ pub fn round(table: &[u16], orbit: Orbit, x: u16, out: &mut [u16]) -> Answer
     ensures { λ r. ⌜ r ≡ roundAnswer (now (table .entry)) orbit x (now (out .entry)) ⌝ }
     ensures out { λ r. ⌜ now (out .exit) ≡ roundLeaves (now (table .entry)) orbit x (now (out .entry)) ⌝ }
 {
-    let fault = judge::dart_question_fault(table, x);
-    if fault != 0 {
-        return answers::refused(fault);
+    let refusal = judge::dart_question_refusal(table, x);
+    if refusal != 0 {
+        return answers::refused(refusal);
     }
     let count = walk::orbit_length(table, orbit, x);
     if out.len() < count as usize {
-        return answers::refused(refusal::SHORT_ROOM);
+        return answers::refused(refusals::SHORT_ROOM);
     }
     walk::write_orbit(table, orbit, x, out);
     Answer {
@@ -189,13 +189,13 @@ pub fn component_marks(table: &[u16], out: &mut [u16]) -> Answer
     ensures { λ r. ⌜ r ≡ marksAnswer (now (table .entry)) (now (out .entry)) ⌝ }
     ensures out { λ r. ⌜ now (out .exit) ≡ marksLeaves (now (table .entry)) (now (out .entry)) ⌝ }
 {
-    let fault = judge::table_fault(table);
-    if fault != 0 {
-        return answers::refused(fault);
+    let refusal = judge::table_refusal(table);
+    if refusal != 0 {
+        return answers::refused(refusal);
     }
     let n = words::capacity_of(table);
     if out.len() < n {
-        return answers::refused(refusal::SHORT_ROOM);
+        return answers::refused(refusals::SHORT_ROOM);
     }
     flood::mark_components(table, &mut out[..n]);
     Answer {
@@ -209,8 +209,8 @@ pub fn component_marks(table: &[u16], out: &mut [u16]) -> Answer
 pub fn look<'a>(table: &'a [u16], x: u16) -> &'a [u16]
     ensures { λ r. ⌜ now r ≡ lookOf (now (table .entry)) x ⌝ }
 {
-    let fault = judge::darts_question_fault(table, x, x);
-    if fault == 0 {
+    let refusal = judge::darts_question_refusal(table, x, x);
+    if refusal == 0 {
         let at = words::place_of(x, 0);
         let end = at + words::WORDS;
         &table[at..end]
@@ -228,14 +228,14 @@ pub fn play(table: &mut [u16], tape: &[u8]) -> Run
 {
     if MAX_TAPE < tape.len() {
         return Run {
-            number: refusal::WRONG_SIZE,
+            number: refusals::WRONG_SIZE,
             accepted: 0,
         };
     }
-    let fault = judge::table_fault(table);
-    if fault != 0 {
+    let refusal = judge::table_refusal(table);
+    if refusal != 0 {
         return Run {
-            number: fault,
+            number: refusal,
             accepted: 0,
         };
     }
@@ -248,7 +248,7 @@ pub fn tape_needs(tape: &[u8]) -> Needs
     ensures { λ r. ⌜ r ≡ needsAnswer (now (tape .entry)) ⌝ }
 {
     if MAX_TAPE < tape.len() {
-        return count_needs::refused(refusal::WRONG_SIZE);
+        return count_needs::refused(refusals::WRONG_SIZE);
     }
     count_needs::needs_of(tape)
 }
@@ -258,9 +258,9 @@ pub fn write_tape(table: &[u16], out: &mut [u8]) -> Answer
     ensures { λ r. ⌜ r ≡ tapeAnswer (now (table .entry)) (now (out .entry)) ⌝ }
     ensures out { λ r. ⌜ now (out .exit) ≡ tapeLeaves (now (table .entry)) (now (out .entry)) ⌝ }
 {
-    let fault = judge::table_fault(table);
-    if fault != 0 {
-        return answers::refused(fault);
+    let refusal = judge::table_refusal(table);
+    if refusal != 0 {
+        return answers::refused(refusal);
     }
     let tape = write::write_tape(table, out);
     Answer {
@@ -273,14 +273,14 @@ pub fn write_tape(table: &[u16], out: &mut [u8]) -> Answer
 // The planning screen's call: plays a tape on an empty table of 4,096 darts and writes ten numbers and the rewritten
 // tape into out. include/lotskadi.h tells C what each byte is.
 pub fn screen(tape: &[u8], out: &mut [u8]) -> u8
-    ensures { λ r. ⌜ r ≡ screenFault (now (tape .entry)) (now (out .entry)) ⌝ }
+    ensures { λ r. ⌜ r ≡ screenRefusal (now (tape .entry)) (now (out .entry)) ⌝ }
     ensures out { λ r. ⌜ now (out .exit) ≡ screenLeaves (now (tape .entry)) (now (out .entry)) ⌝ }
 {
     if MAX_TAPE < tape.len() {
-        return refusal::WRONG_SIZE;
+        return refusals::WRONG_SIZE;
     }
     if out.len() < SCREEN_ROOM {
-        return refusal::SHORT_ROOM;
+        return refusals::SHORT_ROOM;
     }
     let mut table = [0u16; 16384];
     let run = player::play(&mut table, tape);

@@ -10,15 +10,15 @@ use borrow.Author.Tests.{eqb-true, eqb-false, leb-true, le-leb}
 use Rattle.hypermap.specs.Lists.{all}
 use Rattle.hypermap.proofs.Basics.Bools.{byCases, andRight, andTrue}
 use Rattle.hypermap.proofs.Basics.Lists.{Mem, memHead, memTail, memNil, memCases, allMem}
-use Rattle.table.specs.Layout.{Table, capacity, isPresent, isSound}
+use Rattle.table.specs.Layout.{Table, capacity, isPresent, holdsHypermap}
 use Rattle.table.specs.Commands.{puts, takesOut, joins, cuts}
-use Rattle.table.proofs.Soundness.{high}
-use Rattle.table.proofs.Faults.{passed, allPresent}
+use Rattle.table.proofs.Holding.{high}
+use Rattle.table.proofs.Stages.{passed, allPresent}
 use Rattle.table.proofs.Accepting.{putPassed}
 use Rattle.rings.proofs.Conditions.{acceptedList}
-use Rattle.tape.specs.Steps.{TapeCommand, changes, reports, cutsRing, stepFault, stepOn}
+use Rattle.tape.specs.Steps.{TapeCommand, changes, reports, cutsRing, stepRefusal, stepOn}
 use Rattle.tape.specs.Laws.{AllAccepted}
-use Rattle.tape.proofs.Running.{stepSound}
+use Rattle.tape.proofs.Running.{stepHolds}
 use Rattle.needs.specs.Amounts.{namedBy, namedIn, greatest}
 use Rattle.needs.specs.Laws.{CapacityLaw, AcceptedCapacityLaw}
 use Rattle.needs.proofs.Greatest.{largerIs, largerZero, greatestAppend}
@@ -53,7 +53,7 @@ capacityLaw w cs = (
 presentBelow : (w : Table) (xs : List ℕ) → all (isPresent w) xs ≡ true → greatest xs ≤ capacity w
 presentBelow w xs p = greatestBelow xs (capacity w) (λ x m. high w x (allMem (isPresent w) xs p x m))
 
-namedBelow : (w : Table) (c : TapeCommand) → stepFault w c ≡ 0 → greatest (namedBy c) ≤ capacity w
+namedBelow : (w : Table) (c : TapeCommand) → stepRefusal w c ≡ 0 → greatest (namedBy c) ≤ capacity w
 unfolding greatest
 namedBelow w (changes (puts x)) e = omega (arith, largerZero x, putPassed w x e .high)
 namedBelow w (changes (takesOut x)) e = presentBelow w (x ∷ []) (allPresent w (x ∷ []) (passed _ _ e .0))
@@ -63,11 +63,11 @@ namedBelow w reports e = omega arith
 namedBelow w (cutsRing ws) e = presentBelow w ws (acceptedList w ws e .darts)
 
 accepted :
-    (cs : List TapeCommand) (w : Table) → isSound w ≡ true → AllAccepted w cs → greatest (namedIn cs) ≤ capacity w
+    (cs : List TapeCommand) (w : Table) → holdsHypermap w ≡ true → AllAccepted w cs → greatest (namedIn cs) ≤ capacity w
 unfolding namedIn greatest
 accepted [] w s a = omega arith
 accepted (c ∷ cs) w s a =
-    let k = stepSound w c s (a .0) in
+    let k = stepHolds w c s (a .0) in
     let r : greatest (namedIn cs) ≤ capacity w = rw (k .1) at (accepted cs (stepOn w c) (k .0) (a .1)) in
     let l = namedBelow w c (a .0) in
     omega (arith, greatestAppend (namedBy c) (namedIn cs), largerIs (greatest (namedBy c)) (greatest (namedIn cs)))

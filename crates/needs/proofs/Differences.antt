@@ -17,12 +17,12 @@ use Rattle.hypermap.proofs.Basics.Lists.{Mem, memNil, memCases, notAmong, keepM
 use Rattle.hypermap.proofs.Basics.Lists.{pigeonhole}
 use Rattle.table.specs.Refusals.{apart}
 use Rattle.table.specs.Layout.{Table, capacity, upFrom, place, wordAt, nextWord, backWord, isPresent}
-use Rattle.table.specs.Layout.{isSound}
+use Rattle.table.specs.Layout.{holdsHypermap}
 use Rattle.table.specs.Commands.{withWord, withAll, swapped, Command, puts, takesOut, joins, cuts, commandOn}
-use Rattle.table.specs.Commands.{commandFault, isTogether}
+use Rattle.table.specs.Commands.{commandRefusal, isTogether}
 use Rattle.table.specs.Laws.{fourPlaces, IsSwapped}
 use Rattle.table.proofs.Numbers.{memUpFrom, upFromRising}
-use Rattle.table.proofs.Soundness.{low, high, memPresent, links, empty}
+use Rattle.table.proofs.Holding.{low, high, memPresent, links, empty}
 use Rattle.table.proofs.Writing.{eachWord}
 use Rattle.table.proofs.Accepting.{Free, putPassed, Alone, takeOutPassed, Joined, joinPassed, cutPassed}
 use Rattle.table.proofs.Swaps.{swapLaw}
@@ -127,7 +127,7 @@ module _ (w : Table) (x u v : ℕ) (l : 1 ≤ x) (h : x ≤ capacity w) where
         ))
 
 -- A COMMAND that is accepted
-module _ (w : Table) (s : isSound w ≡ true) where
+module _ (w : Table) (s : holdsHypermap w ≡ true) where
   putWords : (x : ℕ) → Free w x → differing w (withAll x x w) ≡ 4
   putWords x f =
       let l = f .low in
@@ -152,7 +152,7 @@ module _ (w : Table) (s : isSound w ≡ true) where
       clash (sameOrbits w (of k) s .reflexive a (memPresent w a ∙ j .first)) (rw (← e) at (j .apart))
 
 pub commandWords :
-    (w : Table) (c : Command) → isSound w ≡ true → commandFault w c ≡ 0 → differing w (commandOn w c) ≡ 4
+    (w : Table) (c : Command) → holdsHypermap w ≡ true → commandRefusal w c ≡ 0 → differing w (commandOn w c) ≡ 4
 commandWords w (puts x) s e = putWords w s x (putPassed w x e)
 commandWords w (takesOut x) s e = takeOutWords w s x (takeOutPassed w x e)
 commandWords w (joins k a b) s e =

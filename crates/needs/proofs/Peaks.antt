@@ -15,19 +15,19 @@ use Rattle.hypermap.proofs.Basics.Lists.{memHead, memTail, memCases, distinctCo
 use Rattle.hypermap.proofs.Basics.Lists.{pigeonhole}
 use Rattle.hypermap.proofs.Basics.Sums.{keptNone}
 use Rattle.hypermap.proofs.Laws.Jordan.{breakDarts}
-use Rattle.table.specs.Layout.{Table, numbers, isPresent, isSound, hypermapOf}
+use Rattle.table.specs.Layout.{Table, numbers, isPresent, holdsHypermap, hypermapOf}
 use Rattle.table.specs.Commands.{withAll, swapped, puts, takesOut, joins, cuts}
 use Rattle.table.proofs.Numbers.{numbersRising}
 use Rattle.table.proofs.Zeros.{zerosNone}
-use Rattle.table.proofs.Soundness.{low, high, firstWord, presentFrom, memPresent}
+use Rattle.table.proofs.Holding.{low, high, firstWord, presentFrom, memPresent}
 use Rattle.table.proofs.Accepting.{putPassed, takeOutPassed, joinPassed, cutPassed}
 use Rattle.table.proofs.Swaps.{swapLaw}
 use Rattle.table.proofs.Commands.{allLength, here, presentElsewhere}
 use Rattle.rings.specs.Rings.{linksOf}
 use Rattle.rings.proofs.Parting.{acceptedCut}
-use Rattle.tape.specs.Steps.{TapeCommand, changes, reports, cutsRing, stepFault, stepOn}
+use Rattle.tape.specs.Steps.{TapeCommand, changes, reports, cutsRing, stepRefusal, stepOn}
 use Rattle.tape.specs.Laws.{AllAccepted}
-use Rattle.tape.proofs.Running.{stepSound}
+use Rattle.tape.proofs.Running.{stepHolds}
 use Rattle.needs.specs.Amounts.{larger, putsBy, takeOutsBy, peakOf, total}
 use Rattle.needs.specs.Laws.{IsPeak, PeakLaw, dartsIn, mostDarts, MostDartsLaw}
 use Rattle.needs.proofs.Greatest.{largerIs}
@@ -93,7 +93,7 @@ module _
 
 -- THE DARTS AFTER A COMMAND
 putDarts :
-    (w : Table) (x : ℕ) → stepFault w (changes (puts x)) ≡ 0 → dartsIn (withAll x x w) ≡ suc (dartsIn w)
+    (w : Table) (x : ℕ) → stepRefusal w (changes (puts x)) ≡ 0 → dartsIn (withAll x x w) ≡ suc (dartsIn w)
 putDarts w x e =
     let f = putPassed w x e in
     let l = f .low in
@@ -103,7 +103,7 @@ putDarts w x e =
     (presentElsewhere w x x l h)
 
 takeOutDarts :
-    (w : Table) (x : ℕ) → stepFault w (changes (takesOut x)) ≡ 0 → dartsIn w ≡ suc (dartsIn (withAll x 0 w))
+    (w : Table) (x : ℕ) → stepRefusal w (changes (takesOut x)) ≡ 0 → dartsIn w ≡ suc (dartsIn (withAll x 0 w))
 takeOutDarts w x e =
     let p = takeOutPassed w x e .present in
     let l = low w x p in
@@ -114,18 +114,18 @@ takeOutDarts w x e =
     p (λ y d. sym (presentElsewhere w x 0 l h y d))
 
 swapDarts :
-    (w : Table) → isSound w ≡ true → (k : Dimension) (a b : ℕ) → isPresent w a ≡ true → isPresent w b ≡ true →
+    (w : Table) → holdsHypermap w ≡ true → (k : Dimension) (a b : ℕ) → isPresent w a ≡ true → isPresent w b ≡ true →
     dartsIn (swapped k a b w) ≡ dartsIn w
 swapDarts w s k a b p q = ap length (swapLaw w s k a b p q .holds .darts)
 
 ringDarts :
-    (w : Table) (ws : List ℕ) → isSound w ≡ true → stepFault w (cutsRing ws) ≡ 0 →
+    (w : Table) (ws : List ℕ) → holdsHypermap w ≡ true → stepRefusal w (cutsRing ws) ≡ 0 →
     dartsIn (stepOn w (cutsRing ws)) ≡ dartsIn w
 ringDarts w ws s e = ap length (acceptedCut w ws s e .holds .darts ∙ breakDarts (linksOf ws) (hypermapOf w))
 
 -- the most that the rest reaches, as the first command raises it
 step :
-    (w : Table) (c : TapeCommand) (p : ℕ) → isSound w ≡ true → stepFault w c ≡ 0 →
+    (w : Table) (c : TapeCommand) (p : ℕ) → holdsHypermap w ≡ true → stepRefusal w c ≡ 0 →
     larger (dartsIn w) (dartsIn (stepOn w c) + p) ≡ dartsIn w + (putsBy c + p - takeOutsBy c)
 step w (changes (puts x)) p s e =
     omega (arith, largerIs (dartsIn w) (dartsIn (withAll x x w) + p), putDarts w x e)
@@ -142,11 +142,11 @@ step w (cutsRing ws) p s e =
     omega (arith, largerIs (dartsIn w) (dartsIn (stepOn w (cutsRing ws)) + p), ringDarts w ws s e)
 
 most :
-    (cs : List TapeCommand) (w : Table) → isSound w ≡ true → AllAccepted w cs → mostDarts w cs ≡ dartsIn w + peakOf cs
+    (cs : List TapeCommand) (w : Table) → holdsHypermap w ≡ true → AllAccepted w cs → mostDarts w cs ≡ dartsIn w + peakOf cs
 unfolding mostDarts peakOf
 most [] w s a = omega arith
 most (c ∷ cs) w s a =
-    ap (larger (dartsIn w)) (most cs (stepOn w c) (stepSound w c s (a .0) .0) (a .1)) ∙
+    ap (larger (dartsIn w)) (most cs (stepOn w c) (stepHolds w c s (a .0) .0) (a .1)) ∙
     step w c (peakOf cs) s (a .0)
 
 pub mostDartsLaw : MostDartsLaw

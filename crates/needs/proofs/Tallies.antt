@@ -10,7 +10,7 @@ use borrow.Rule.Slice.PartAt.{part-to-end}
 use Rattle.table.specs.Layout.{wordsPerDart}
 use Rattle.table.specs.Commands.{puts, takesOut, joins, cuts}
 use Rattle.tape.specs.Steps.{TapeCommand, changes, reports, cutsRing}
-use Rattle.tape.specs.Tapes.{commandOf, readFault, restOf, contentsOf}
+use Rattle.tape.specs.Tapes.{commandOf, readRefusal, restOf, contentsOf}
 use Rattle.tape.specs.Inner.{meaning, numberOf, Reads}
 use Rattle.tape.specs.declared.Instruction.{Instruction}
 use Rattle.tape.specs.declared.Reading.{Reading}
@@ -137,7 +137,7 @@ module _ (tape rest : List ℕ) (t : Tally) (h : Counting tape rest t) where
     unfolding neededBy
     countingRefused n m b e =
         let q : Reads rest (Refused n) = rw b at a in
-        let g : m ≡ readFault rest = rw (b, q .0) at e in
+        let g : m ≡ readRefusal rest = rw (b, q .0) at e in
         let f : contentsOf tape .refusal ≡ m =
         h .refusal ∙ ap (λ s. s .refusal) (readingLaw rest .refused some (λ z. q .1 (q .0 ∙ z))) ∙ sym g in
         rw (ne-eqb (contentsOf tape .refusal) 0 (λ z. q .1 (q .0 ∙ sym g ∙ sym f ∙ z)), f)

@@ -10,7 +10,7 @@ use lib.ListN.{length, getD, take}
 use Rattle.hypermap.specs.Lists.{among, keep}
 use Rattle.hypermap.specs.Hypermap.{edge}
 use Rattle.hypermap.specs.Ring.{DoubleLink}
-use Rattle.table.specs.Layout.{Table, wordsPerDart, capacity, upFrom, isNumber, isSound, hypermapOf}
+use Rattle.table.specs.Layout.{Table, wordsPerDart, capacity, upFrom, isNumber, holdsHypermap, hypermapOf}
 use Rattle.table.specs.Commands.{commandOn, swapped}
 use Rattle.rings.specs.Rings.{linksOf}
 use Rattle.tape.specs.Steps.{TapeCommand, changes, reports, cutsRing, stepOn}
@@ -27,7 +27,7 @@ CapacityLaw = (w : Table) (cs : List TapeCommand) → NoneOff w cs ↔ (greatest
 -- so commands that are all accepted need no more than there is
 abbrev pub AcceptedCapacityLaw : Type 0
 AcceptedCapacityLaw =
-    (w : Table) (cs : List TapeCommand) → isSound w ≡ true → AllAccepted w cs → greatest (namedIn cs) ≤ capacity w
+    (w : Table) (cs : List TapeCommand) → holdsHypermap w ≡ true → AllAccepted w cs → greatest (namedIn cs) ≤ capacity w
 
 -- THE PEAK: "the highest of puts less take-outs over all beginnings of the tape, at least 0"
 pub record IsPeak (cs : List TapeCommand) (p : ℕ) : Type 0 where
@@ -48,7 +48,7 @@ mostDarts w (c ∷ cs) = larger (dartsIn w) (mostDarts (stepOn w c) cs)
 
 abbrev pub MostDartsLaw : Type 0
 MostDartsLaw =
-    (w : Table) (cs : List TapeCommand) → isSound w ≡ true → AllAccepted w cs → mostDarts w cs ≡ dartsIn w + peakOf cs
+    (w : Table) (cs : List TapeCommand) → holdsHypermap w ≡ true → AllAccepted w cs → mostDarts w cs ≡ dartsIn w + peakOf cs
 
 -- WORDS: "the words changed, counted command by command and crossing by crossing". The places where two tables differ
 unfoldable pub differing : (before after : Table) → ℕ
@@ -71,5 +71,5 @@ changedOn w (c ∷ cs) = changedBy w c + changedOn (stepOn w c) cs
 
 abbrev pub WordsLaw : Type 0
 WordsLaw =
-    (w : Table) (cs : List TapeCommand) → isSound w ≡ true → AllAccepted w cs →
+    (w : Table) (cs : List TapeCommand) → holdsHypermap w ≡ true → AllAccepted w cs →
     changedOn w cs ≡ wordsPerDart * total changesBy cs

@@ -22,17 +22,17 @@ use Rattle.hypermap.proofs.Permutations.Reaching.{ride}
 use Rattle.hypermap.proofs.Hypermaps.Restricting.{restrictExt, closedOrbit, componentClosed}
 use Rattle.hypermap.proofs.Laws.Components.{componentLaw}
 use Rattle.hypermap.proofs.Laws.Orbits.{orbitLaw}
-use Rattle.table.specs.Layout.{Table, capacity, isPresent, isSound, hypermapOf}
-use Rattle.table.specs.Inner.{SoundAt}
-use Rattle.table.proofs.Soundness.{low, high, memPresent, soundHypermap, dartsFew}
-use Rattle.parts.specs.Inner.{markAt, HasMark, Painted, isMarked}
-use Rattle.parts.specs.Floods.{Front, front, HasPlaces, Entering, HasBack, Entered, Dry}
+use Rattle.table.specs.Layout.{Table, capacity, isPresent, holdsHypermap, hypermapOf}
+use Rattle.table.specs.Inner.{HypermapAt}
+use Rattle.table.proofs.Holding.{low, high, memPresent, tableHypermap, dartsFew}
+use Rattle.parts.specs.Inner.{markAt, HasMark, PartMarked, isMarked}
+use Rattle.parts.specs.Floods.{Front, front, HasPlaces, Entering, HasBack, Entered, Unmarked}
 use Rattle.parts.proofs.FaceByFace.{allSuccessors, oneMore}
 use Rattle.parts.proofs.Entering.{unmarkedFew}
 
 pub componentParts :
-    (w : Table) → isSound w ≡ true → Equivalence (hypermapOf w .darts) (sameComponent (hypermapOf w))
-componentParts w s = componentLaw (hypermapOf w) (soundHypermap w s) .1
+    (w : Table) → holdsHypermap w ≡ true → Equivalence (hypermapOf w .darts) (sameComponent (hypermapOf w))
+componentParts w s = componentLaw (hypermapOf w) (tableHypermap w s) .1
 
 -- the darts of the component of x that have the mark v, and how many faces they make up
 abbrev isEntered : Table → (x v : ℕ) → (marks : List ℕ) → (y : ℕ) → Bool
@@ -78,21 +78,21 @@ floodHere w x v f g head count h = record {
   counted = h .counted;
 }
 
-module _ (w : Table) (x v : ℕ) (k : SoundAt w x) (one : 1 ≤ v) where
+module _ (w : Table) (x v : ℕ) (k : HypermapAt w x) (one : 1 ≤ v) where
   abbrev Same : ℕ → Type 0
   Same y = sameComponent (hypermapOf w) x y ≡ true
 
   wf : isHypermap (hypermapOf w) ≡ true
-  wf = soundHypermap w (k .sound)
+  wf = tableHypermap w (k .hypermap)
 
   start : Mem x (hypermapOf w .darts)
   start = rw memPresent (k .here)
 
   sameSelf : Same x
-  sameSelf = componentParts w (k .sound) .reflexive x start
+  sameSelf = componentParts w (k .hypermap) .reflexive x start
 
   sameMem : (y : ℕ) → Same y → Mem y (hypermapOf w .darts)
-  sameMem y s = componentParts w (k .sound) .within x y start s
+  sameMem y s = componentParts w (k .hypermap) .within x y start s
 
   sameDart : (y : ℕ) → Same y → isPresent w y ≡ true
   sameDart y s = rw memPresent at (sameMem y s)
@@ -112,8 +112,8 @@ module _ (w : Table) (x v : ℕ) (k : SoundAt w x) (one : 1 ≤ v) where
   -- A FACE is entered at y, which has no mark: so no dart of the face has one
   module _
       (f : Front) (head : ℕ) (h : Flooding w x v f head) (y : ℕ) (s : Same y) (zero : markAt (f .marks) y ≡ 0) where
-    dry : (z : ℕ) → sameFace (hypermapOf w) y z ≡ true → markAt (f .marks) z ≡ 0
-    dry z i = ⊎-elim (λ e. e) (λ e. absurd (omega (arith, one, met e, zero))) (h .inside z (sameAround y z s i))
+    unmarked : (z : ℕ) → sameFace (hypermapOf w) y z ≡ true → markAt (f .marks) z ≡ 0
+    unmarked z i = ⊎-elim (λ e. e) (λ e. absurd (omega (arith, one, met e, zero))) (h .inside z (sameAround y z s i))
       where
         back : sameFace (hypermapOf w) z y ≡ true
         back = orbitLaw (hypermapOf w) wf face .1 .symmetric y z (sameMem y s) i
@@ -128,22 +128,22 @@ module _ (w : Table) (x v : ℕ) (k : SoundAt w x) (one : 1 ≤ v) where
     pub floodAsks : Entering w y v f
     floodAsks = record {
       low = one;
-      marking = record { at = record { sound = k .sound; here = sameDart y s }; size = h .size };
+      marking = record { at = record { hypermap = k .hypermap; here = sameDart y s }; size = h .size };
       places = h .places;
-      dry = dry;
+      unmarked = unmarked;
     }
 
     module _ (g : Front) (e : Entered w y v f g) (sizes : length (g .marks) ≡ length (f .marks)) where
       off :
           (z : ℕ) → 1 ≤ z → sameFace (hypermapOf w) y z ≡ false → markAt (g .marks) z ≡ markAt (f .marks) z
-      off = e .painted .outside
+      off = e .partMarked .outside
 
       keeps : (z : ℕ) → 1 ≤ z → markAt (f .marks) z ≡ v → markAt (g .marks) z ≡ v
       keeps z l q =
-          byCases (sameFace (hypermapOf w) y z) (λ t. e .painted .inside z t) (λ t. off z l t ∙ q)
+          byCases (sameFace (hypermapOf w) y z) (λ t. e .partMarked .inside z t) (λ t. off z l t ∙ q)
 
       marked : markAt (g .marks) y ≡ v
-      marked = e .painted .inside y (orbitLaw (hypermapOf w) wf face .1 .reflexive y (sameMem y s))
+      marked = e .partMarked .inside y (orbitLaw (hypermapOf w) wf face .1 .reflexive y (sameMem y s))
 
       entered : Flooding w x v g head
       entered = record {
@@ -151,10 +151,10 @@ module _ (w : Table) (x v : ℕ) (k : SoundAt w x) (one : 1 ≤ v) where
         places = e .places;
         order = omega (arith, h .order, e .order);
         inside = λ z o. byCases (sameFace (hypermapOf w) y z)
-            (λ t. inr (e .painted .inside z t))
+            (λ t. inr (e .partMarked .inside z t))
             (λ t. rw (off z (sameLow z o) t) (h .inside z o));
         whole = λ z o q. byCases (sameFace (hypermapOf w) y z)
-            (λ t. e .painted .inside _
+            (λ t. e .partMarked .inside _
             (orbitLaw (hypermapOf w) wf face .1 .transitive y z _ (sameMem y s) t (around z o)))
             (λ t. keeps _ (sameLow _ (sameAround z _ o (around z o)))
             (h .whole z o (sym (off z (sameLow z o) t) ∙ q)));
@@ -179,31 +179,31 @@ module _ (w : Table) (x v : ℕ) (k : SoundAt w x) (one : 1 ≤ v) where
       faceMore : facesEntered w x v (g .marks) ≡ facesEntered w x v (f .marks) + 1
       faceMore =
           oneMore (hypermapOf w) wf face y (sameMem y s) (isEntered w x v (g .marks)) (isEntered w x v (f .marks))
-          (λ z t. andTrue _ _ (sameAround y z s t) (eq-eqb _ v (e .painted .inside z t)))
+          (λ z t. andTrue _ _ (sameAround y z s t) (eq-eqb _ v (e .partMarked .inside z t)))
           (λ z d. byCases (sameFace (hypermapOf w) y z)
-          (λ t. let n : isMarked (f .marks) v z ≡ false = ne-eqb _ v (λ q. omega (arith, one, dry z t)) in
-          rw (t, n, eq-eqb _ v (e .painted .inside z t), sameAround y z s t))
+          (λ t. let n : isMarked (f .marks) v z ≡ false = ne-eqb _ v (λ q. omega (arith, one, unmarked z t)) in
+          rw (t, n, eq-eqb _ v (e .partMarked .inside z t), sameAround y z s t))
           (λ t. rw (t, off z (low w z (rw memPresent at d)) t) (boolExt _ _ (λ u. andTrue _ _ u refl) (andLeft _ _))))
 
   -- FROM THE FIRST DART
-  module _ (m q : List ℕ) (d : Dry w x v m q) where
+  module _ (m q : List ℕ) (d : Unmarked w x v m q) where
     none : Flooding w x v (front m q 0) 0
     none = record {
       size = d .marking .size;
       places = omega (arith, unmarkedFew m, d .room);
       order = omega arith;
-      inside = λ y s. inl (d .dry y s);
-      whole = λ y s e. absurd (omega (arith, one, d .dry y s));
+      inside = λ y s. inl (d .unmarked y s);
+      whole = λ y s e. absurd (omega (arith, one, d .unmarked y s));
       queued = λ i l. absurd (omega arith);
       past = λ i l. absurd (omega arith);
-      waiting = λ y s e. absurd (omega (arith, one, d .dry y s));
+      waiting = λ y s e. absurd (omega (arith, one, d .unmarked y s));
     }
 
     noFace : facesEntered w x v m ≡ 0
     noFace =
         let n = keptNone (isEntered w x v m) (hypermapOf w .darts) (λ y i. refuted (isEntered w x v m y) (λ t.
         let e : markAt m y ≡ v = eqb-true _ v (andRight (sameComponent (hypermapOf w) x y) _ t) in
-        omega (arith, one, d .dry y (andLeft _ (isMarked m v y) t)))) in
+        omega (arith, one, d .unmarked y (andLeft _ (isMarked m v y) t)))) in
         omega (
           arith,
           n,
@@ -212,18 +212,18 @@ module _ (w : Table) (x v : ℕ) (k : SoundAt w x) (one : 1 ≤ v) where
         )
 
     pub firstAsks : Entering w x v (front m q 0)
-    firstAsks = floodAsks (front m q 0) 0 none x sameSelf (d .dry x sameSelf)
+    firstAsks = floodAsks (front m q 0) 0 none x sameSelf (d .unmarked x sameSelf)
 
     pub firstDone :
         (g : Front) → Entered w x v (front m q 0) g → length (g .marks) ≡ length m → length (g .queue) ≡ length q →
         Flood w x v (front m q 0) g 0 1
     firstDone g e ms qs = record {
-      state = entered (front m q 0) 0 none x sameSelf (d .dry x sameSelf) g e ms;
+      state = entered (front m q 0) 0 none x sameSelf (d .unmarked x sameSelf) g e ms;
       marksSize = ms;
       queueSize = qs;
-      outside = outsideToo (front m q 0) 0 none x sameSelf (d .dry x sameSelf) g e ms;
-      root = marked (front m q 0) 0 none x sameSelf (d .dry x sameSelf) g e ms;
-      counted = omega (arith, noFace, faceMore (front m q 0) 0 none x sameSelf (d .dry x sameSelf) g e ms);
+      outside = outsideToo (front m q 0) 0 none x sameSelf (d .unmarked x sameSelf) g e ms;
+      root = marked (front m q 0) 0 none x sameSelf (d .unmarked x sameSelf) g e ms;
+      counted = omega (arith, noFace, faceMore (front m q 0) 0 none x sameSelf (d .unmarked x sameSelf) g e ms);
     }
 
   -- FROM THE HEAD
@@ -318,7 +318,7 @@ module _ (w : Table) (x v : ℕ) (k : SoundAt w x) (one : 1 ≤ v) where
     pub floodedAll :
         (m : List ℕ) →
         ((z : ℕ) → 1 ≤ z → sameComponent (hypermapOf w) x z ≡ false → markAt (f₀ .marks) z ≡ markAt m z) →
-        (count ≡ faces (componentAt (hypermapOf w) x)) × Painted (componentOf (hypermapOf w) x) v m (f .marks)
+        (count ≡ faces (componentAt (hypermapOf w) x)) × PartMarked (componentOf (hypermapOf w) x) v m (f .marks)
     floodedAll m first = (
       h .counted ∙ ap faces (restrictExt (hypermapOf w) (isEntered w x v (f .marks)) (sameComponent (hypermapOf w) x)
           (λ z i. boolExt _ _ (andLeft _ _) (λ t. andTrue _ _ t (eq-eqb _ v (all z t))))),
@@ -330,17 +330,17 @@ module _ (w : Table) (x v : ℕ) (k : SoundAt w x) (one : 1 ≤ v) where
     noMark : (y : ℕ) → isPresent w y ≡ true → markAt (replicate n 0) y ≡ 0
     noMark y d = getD-replicate n (y - 1) 0 0 (omega (arith, low w y d, high w y d))
 
-    pub dryZeros : Dry w x v (replicate n 0) (replicate n 0)
-    dryZeros = record {
+    pub unmarkedZeros : Unmarked w x v (replicate n 0) (replicate n 0)
+    unmarkedZeros = record {
       low = one;
       few = few;
       marking = record { at = k; size = rw length-replicate c };
       room = omega arith;
-      dry = λ y s. noMark y (sameDart y s);
+      unmarked = λ y s. noMark y (sameDart y s);
     }
 
     pub floodedTest :
-        (y : ℕ) (m : List ℕ) → isPresent w y ≡ true → Painted (componentOf (hypermapOf w) x) v (replicate n 0) m →
+        (y : ℕ) (m : List ℕ) → isPresent w y ≡ true → PartMarked (componentOf (hypermapOf w) x) v (replicate n 0) m →
         eqb (markAt m y) v ≡ sameComponent (hypermapOf w) x y
     floodedTest y m d p =
         byCases (sameComponent (hypermapOf w) x y)

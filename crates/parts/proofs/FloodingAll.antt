@@ -13,10 +13,10 @@ use Rattle.hypermap.specs.Laws.{sumOverComponents}
 use Rattle.hypermap.proofs.Basics.Lists.{keepShorter}
 use Rattle.hypermap.proofs.Laws.ComponentGenus.{componentGenusLaw}
 use Rattle.table.specs.Layout.{Table, capacity, numbers, isPresent, hypermapOf}
-use Rattle.table.proofs.Soundness.{memPresent, soundHypermap, dartsFew}
+use Rattle.table.proofs.Holding.{memPresent, tableHypermap, dartsFew}
 use Rattle.table.proofs.Zeros.{zeroAt}
 use Rattle.parts.specs.Counts as reports
-use Rattle.parts.specs.Inner.{markAt, isFresh, Skipped, Counted, Painted}
+use Rattle.parts.specs.Inner.{markAt, isFresh, Skipped, WithinCapacity, PartMarked}
 use Rattle.parts.proofs.Counting.{Summing, summingNone, summingYes, summingNo, summingAll, keepBoth}
 use Rattle.parts.proofs.Marking.{freshNot, Sweep, Pass, Passed, passedNone, isFirst, passedFresh, passedOther}
 use Rattle.parts.proofs.Marking.{passedCount, passedInside}
@@ -45,11 +45,11 @@ pub record FloodingAll (w : Table) (x components lifts faces : ℕ) (m : List �
   pub isLifts : AddedUp w reports.lifts x lifts
   pub isFaces : AddedUp w theory.faces x faces
 
-module _ (w : Table) (k : Counted w) where
+module _ (w : Table) (k : WithinCapacity w) where
   pub allPass : Pass w (allSweep w)
   allPass = record {
     room = k .room;
-    holds = holdsAll w (componentOf (hypermapOf w)) (componentParts w (k .sound));
+    holds = holdsAll w (componentOf (hypermapOf w)) (componentParts w (k .hypermap));
     shared = λ x y t i. refl;
     unreached = λ x t e. rw t;
     reached = λ x t l. rw t;
@@ -77,7 +77,7 @@ module _ (w : Table) (k : Counted w) where
 
       pub allFresh :
           isFresh w m x ≡ true → (n : List ℕ) → length n ≡ length m →
-          Painted (componentOf (hypermapOf w) x) 1 m n → (a b : ℕ) →
+          PartMarked (componentOf (hypermapOf w) x) 1 m n → (a b : ℕ) →
           a ≡ reports.lifts (componentAt (hypermapOf w) x) → b ≡ theory.faces (componentAt (hypermapOf w) x) →
           FloodingAll w (x + 1) (c + 1) (l + a) (f + b) n
       allFresh t n s q a b isA isB =
@@ -102,10 +102,10 @@ module _ (w : Table) (k : Counted w) where
         )
 
     lifted : sumOverComponents (hypermapOf w) reports.lifts ≡ reports.lifts (hypermapOf w)
-    lifted = liftsAddUp (hypermapOf w) (soundHypermap w (k .sound))
+    lifted = liftsAddUp (hypermapOf w) (tableHypermap w (k .hypermap))
 
     faced : sumOverComponents (hypermapOf w) theory.faces ≡ theory.faces (hypermapOf w)
-    faced = componentGenusLaw (hypermapOf w) (soundHypermap w (k .sound)) .1 .orbits face
+    faced = componentGenusLaw (hypermapOf w) (tableHypermap w (k .hypermap)) .1 .orbits face
 
     pub allFew : (l ≤ 4096) × (f ≤ 4096)
     allFew = (
@@ -143,8 +143,8 @@ module _ (w : Table) (k : Counted w) where
         whole theory.faces f (i .isFaces) ∙ faced,
       )
 
-      pub allPainted : Painted (hypermapOf w .darts) 1 (replicate 4096 0) m
-      allPainted = record {
+      pub allPartMarked : PartMarked (hypermapOf w .darts) 1 (replicate 4096 0) m
+      allPartMarked = record {
         inside = λ y t. passedInside w (allSweep w) allPass x c m (i .passed) h y (rw memPresent at t);
         outside = λ y o t. i .passed .outside y o (rw memPresent at t) ∙ sym (zeroAt 4096 (y - 1));
       }

@@ -18,10 +18,10 @@ use Rattle.hypermap.proofs.Hypermaps.Totals.{links}
 use Rattle.hypermap.proofs.Hypermaps.Restricting.{restrictExt, restrictAll, orbitRestrict, restrictHypermap}
 use Rattle.hypermap.proofs.Hypermaps.Restricting.{closedExt, closedOrbit, componentClosed}
 use Rattle.hypermap.proofs.Laws.Components.{componentLaw}
-use Rattle.table.specs.Layout.{Table, capacity, numbers, isPresent, isSound, hypermapOf}
-use Rattle.table.proofs.Soundness.{low, memPresent, soundHypermap, dartsFew}
+use Rattle.table.specs.Layout.{Table, capacity, numbers, isPresent, holdsHypermap, hypermapOf}
+use Rattle.table.proofs.Holding.{low, memPresent, tableHypermap, dartsFew}
 use Rattle.table.proofs.Zeros.{zeroAt}
-use Rattle.parts.specs.Inner.{markAt, Painted, isMarked, markedIn, MarkedSet, Raised}
+use Rattle.parts.specs.Inner.{markAt, PartMarked, isMarked, markedIn, MarkedSet, Raised}
 use Rattle.parts.proofs.Counting.{keepBoth}
 use Rattle.parts.proofs.Marking.{Holds, Sweep, Pass, Passed, passedNone, passedCount, passedInside}
 use Rattle.parts.proofs.Walking.{orbitParts}
@@ -31,62 +31,62 @@ dartOne w x d = low w x (rw memPresent at d)
 
 -- PAINTED on zeros: the darts of a closed part
 module _
-    (w : Table) (s : isSound w ≡ true) (n : ℕ) (room : capacity w ≤ 4096) (size : capacity w ≤ n) (part : List ℕ)
-    (v : ℕ) (one : 1 ≤ v) (m : List ℕ) (long : length m ≡ n) (q : Painted part v (replicate n 0) m) where
-  paintedTest : (y : ℕ) → 1 ≤ y → isMarked m v y ≡ among y part
-  paintedTest y l =
+    (w : Table) (s : holdsHypermap w ≡ true) (n : ℕ) (room : capacity w ≤ 4096) (size : capacity w ≤ n) (part : List ℕ)
+    (v : ℕ) (one : 1 ≤ v) (m : List ℕ) (long : length m ≡ n) (q : PartMarked part v (replicate n 0) m) where
+  partMarkedTest : (y : ℕ) → 1 ≤ y → isMarked m v y ≡ among y part
+  partMarkedTest y l =
       byCases (among y part)
       (λ t. rw t (eq-eqb (markAt m y) v (q .inside y t)))
       (λ t. let e = q .outside y l t ∙ zeroAt n (y - 1) in rw t (ne-eqb (markAt m y) v (λ i. omega arith)))
 
   onDarts : (y : ℕ) → Mem y (hypermapOf w .darts) → isMarked m v y ≡ among y part
-  onDarts y d = paintedTest y (dartOne w y d)
+  onDarts y d = partMarkedTest y (dartOne w y d)
 
-  paintedIs : markedIn w m v ≡ restrict (λ y. among y part) (hypermapOf w)
-  paintedIs = restrictExt (hypermapOf w) (isMarked m v) (λ y. among y part) onDarts
+  partMarkedIs : markedIn w m v ≡ restrict (λ y. among y part) (hypermapOf w)
+  partMarkedIs = restrictExt (hypermapOf w) (isMarked m v) (λ y. among y part) onDarts
 
-  paintedSet :
+  partMarkedSet :
       ((y : ℕ) → among y part ≡ true → isPresent w y ≡ true) → Closed (hypermapOf w) (λ y. among y part) →
       MarkedSet w m v
-  paintedSet darts closed = record {
-    sound = s;
+  partMarkedSet darts closed = record {
+    hypermap = s;
     room = record { room = room; size = omega arith };
-    darts = λ y l t. darts y (sym (paintedTest y l) ∙ t);
-    rest = λ y l t. q .outside y l (sym (paintedTest y l) ∙ t) ∙ zeroAt n (y - 1);
-    closed = closedExt (hypermapOf w) (soundHypermap w s) (isMarked m v) (λ y. among y part) onDarts closed;
+    darts = λ y l t. darts y (sym (partMarkedTest y l) ∙ t);
+    rest = λ y l t. q .outside y l (sym (partMarkedTest y l) ∙ t) ∙ zeroAt n (y - 1);
+    closed = closedExt (hypermapOf w) (tableHypermap w s) (isMarked m v) (λ y. among y part) onDarts closed;
   }
 
 -- all darts, and one component
 module _
-    (w : Table) (s : isSound w ≡ true) (room : capacity w ≤ 4096) (n : ℕ) (size : capacity w ≤ n) (m : List ℕ)
+    (w : Table) (s : holdsHypermap w ≡ true) (room : capacity w ≤ 4096) (n : ℕ) (size : capacity w ≤ n) (m : List ℕ)
     (long : length m ≡ n) where
   wfTable : isHypermap (hypermapOf w) ≡ true
-  wfTable = soundHypermap w s
+  wfTable = tableHypermap w s
 
-  module _ (q : Painted (hypermapOf w .darts) 1 (replicate n 0) m) where
+  module _ (q : PartMarked (hypermapOf w .darts) 1 (replicate n 0) m) where
     pub allIs : markedIn w m 1 ≡ hypermapOf w
     allIs =
-        paintedIs w s n room size (hypermapOf w .darts) 1 (omega arith) m long q ∙
+        partMarkedIs w s n room size (hypermapOf w .darts) 1 (omega arith) m long q ∙
         restrictAll (hypermapOf w) (isDart (hypermapOf w)) (λ y d. d)
 
     pub allSet : MarkedSet w m 1
     allSet =
-        paintedSet w s n room size (hypermapOf w .darts) 1 (omega arith) m long q (λ y t. rw memPresent at t)
+        partMarkedSet w s n room size (hypermapOf w .darts) 1 (omega arith) m long q (λ y t. rw memPresent at t)
         (record {
           forth = λ k x d t. links (hypermapOf w) wfTable k .keepsBack x d;
           back = λ k x d t. links (hypermapOf w) wfTable k .keeps x d;
         })
 
-  module _ (x : ℕ) (here : isPresent w x ≡ true) (q : Painted (componentOf (hypermapOf w) x) 1 (replicate n 0) m) where
+  module _ (x : ℕ) (here : isPresent w x ≡ true) (q : PartMarked (componentOf (hypermapOf w) x) 1 (replicate n 0) m) where
     dart : Mem x (hypermapOf w .darts)
     dart = rw memPresent here
 
     pub componentIs : markedIn w m 1 ≡ componentAt (hypermapOf w) x
-    componentIs = paintedIs w s n room size (componentOf (hypermapOf w) x) 1 (omega arith) m long q
+    componentIs = partMarkedIs w s n room size (componentOf (hypermapOf w) x) 1 (omega arith) m long q
 
     pub componentSet : MarkedSet w m 1
     componentSet =
-        paintedSet w s n room size (componentOf (hypermapOf w) x) 1 (omega arith) m long q
+        partMarkedSet w s n room size (componentOf (hypermapOf w) x) 1 (omega arith) m long q
         (λ y t. rw memPresent at (componentLaw (hypermapOf w) wfTable .1 .within x y dart t))
         (componentClosed (hypermapOf w) wfTable x dart)
 
@@ -113,7 +113,7 @@ raisingSweep w m v c = setSweep w m v c (λ y. v + 1) (λ y u. eqb u v)
 -- A MARKED SET is a hypermap by itself, with few darts
 module _ (w : Table) (m : List ℕ) (v : ℕ) (k : MarkedSet w m v) where
   wf : isHypermap (hypermapOf w) ≡ true
-  wf = soundHypermap w (k .sound)
+  wf = tableHypermap w (k .hypermap)
 
   pub markedHypermap : isHypermap (markedIn w m v) ≡ true
   markedHypermap = restrictHypermap (hypermapOf w) wf (isMarked m v) (k .closed)
@@ -135,11 +135,11 @@ module _ (w : Table) (m : List ℕ) (v : ℕ) (k : MarkedSet w m v) where
   module _ (c : Kind) where
     pub setHolds : Holds w (inSet w m v) (orbitOf (hypermapOf w) c)
     setHolds = record {
-      parts = orbitParts w (k .sound) c;
+      parts = orbitParts w (k .hypermap) c;
       darts = λ x t. andLeft (isPresent w x) (isMarked m v x) t;
       closed = λ x y t i.
           let d : Mem x (hypermapOf w .darts) = rw memPresent (andLeft (isPresent w x) (isMarked m v x) t) in
-          andTrue (isPresent w y) (isMarked m v y) (rw memPresent at (orbitParts w (k .sound) c .within x y d i))
+          andTrue (isPresent w y) (isMarked m v y) (rw memPresent at (orbitParts w (k .hypermap) c .within x y d i))
           (closedOrbit (hypermapOf w) wf (isMarked m v) (k .closed) c x y d
           (andRight (isPresent w x) (isMarked m v x) t) i);
     }
@@ -192,7 +192,7 @@ module _ (w : Table) (m : List ℕ) (v : ℕ) (k : MarkedSet w m v) where
 
     pub raisedSet : MarkedSet w n (v + 1)
     raisedSet = record {
-      sound = k .sound;
+      hypermap = k .hypermap;
       room = record { room = k .room .room; size = omega (arith, k .room .size) };
       darts = λ y l t. k .darts y l (sym (raisedTest y l) ∙ t);
       rest = λ y l t. let f = sym (raisedTest y l) ∙ t in r .outside y l f ∙ k .rest y l f;

@@ -7,7 +7,7 @@ use lib.Dec.{eqb}
 use lib.ListN.{length, getD}
 use Rattle.hypermap.specs.Hypermap.{edge, face, orbitOf, sameFace, sameComponent}
 use Rattle.table.specs.Layout.{Table, capacity, wordAt, backWord, hypermapOf}
-use Rattle.parts.specs.Inner.{markAt, MarkingAt, Painted}
+use Rattle.parts.specs.Inner.{markAt, MarkingAt, PartMarked}
 
 -- the marks of a flood, and its queue up to the tail
 pub record Front : Type 0 where
@@ -19,20 +19,20 @@ abbrev pub front : (marks queue : List ℕ) → (tail : ℕ) → Front
 front m q n = record { marks = m; queue = q; tail = n }
 
 -- how many numbers have no mark
-unfoldable pub unmarked : List ℕ → ℕ
-unmarked [] = 0
-unmarked (v ∷ m) = cond (eqb v 0) 1 0 + unmarked m
+unfoldable pub unmarkedCount : List ℕ → ℕ
+unmarkedCount [] = 0
+unmarkedCount (v ∷ m) = cond (eqb v 0) 1 0 + unmarkedCount m
 
 -- each number without a mark has a place left in the queue
 abbrev pub HasPlaces : Front → Type 0
-HasPlaces f = unmarked (f .marks) + f .tail ≤ length (f .queue)
+HasPlaces f = unmarkedCount (f .marks) + f .tail ≤ length (f .queue)
 
 -- what the face of y is entered with: it has no marks
 pub record Entering (w : Table) (y value : ℕ) (f : Front) : Type 0 where
   pub low : 1 ≤ value
   pub marking : MarkingAt w y (f .marks)
   pub places : HasPlaces f
-  pub dry : (z : ℕ) → sameFace (hypermapOf w) y z ≡ true → markAt (f .marks) z ≡ 0
+  pub unmarked : (z : ℕ) → sameFace (hypermapOf w) y z ≡ true → markAt (f .marks) z ≡ 0
 
 -- place i of the queue has the edge predecessor of z
 abbrev pub HasBack : Table → (z : ℕ) → Front → (i : ℕ) → Type 0
@@ -40,7 +40,7 @@ HasBack w z f i = (i < f .tail) × (getD (f .queue) i 0 ≡ wordAt w z (backWord
 
 -- and what it is left with: it is marked, and behind the old tail stand the edge predecessors of its darts
 pub record Entered (w : Table) (y value : ℕ) (f g : Front) : Type 0 where
-  pub painted : Painted (orbitOf (hypermapOf w) face y) value (f .marks) (g .marks)
+  pub partMarked : PartMarked (orbitOf (hypermapOf w) face y) value (f .marks) (g .marks)
   pub places : HasPlaces g
   pub order : f .tail ≤ g .tail
   pub before : (i : ℕ) → i < f .tail → getD (g .queue) i 0 ≡ getD (f .queue) i 0
@@ -49,9 +49,9 @@ pub record Entered (w : Table) (y value : ℕ) (f g : Front) : Type 0 where
   pub queued : (z : ℕ) → sameFace (hypermapOf w) y z ≡ true → (i : ℕ) × HasBack w z g i
 
 -- what a flood from x starts with: no mark in its component
-pub record Dry (w : Table) (x value : ℕ) (marks queue : List ℕ) : Type 0 where
+pub record Unmarked (w : Table) (x value : ℕ) (marks queue : List ℕ) : Type 0 where
   pub low : 1 ≤ value
   pub few : capacity w ≤ 4096
   pub marking : MarkingAt w x marks
   pub room : length marks ≤ length queue
-  pub dry : (y : ℕ) → sameComponent (hypermapOf w) x y ≡ true → markAt marks y ≡ 0
+  pub unmarked : (y : ℕ) → sameComponent (hypermapOf w) x y ≡ true → markAt marks y ≡ 0

@@ -10,29 +10,29 @@ use Rattle.hypermap.specs.Lists.{among}
 use Rattle.hypermap.specs.Hypermap.{edge, Hypermap, of, orbitOf, restrict}
 use Rattle.hypermap.specs.Hypermap as theory
 use Rattle.hypermap.specs.Laws.{Closed}
-use Rattle.table.specs.Layout.{Table, capacity, wordAt, nextWord, backWord, isPresent, isSound, hypermapOf}
-use Rattle.table.specs.Inner.{SoundAt, SoundAtBoth}
+use Rattle.table.specs.Layout.{Table, capacity, wordAt, nextWord, backWord, isPresent, holdsHypermap, hypermapOf}
+use Rattle.table.specs.Inner.{HypermapAt, HypermapAtBoth}
 use Rattle.parts.specs.Counts as numbers
 use Rattle.parts.specs.declared.Flooded.{Flooded}
 
 -- a sound table that the kernel's local arrays have room for
-pub record Counted (w : Table) : Type 0 where
-  pub sound : isSound w ≡ true
+pub record WithinCapacity (w : Table) : Type 0 where
+  pub hypermap : holdsHypermap w ≡ true
   pub room : capacity w ≤ 4096
 
 -- and a dart of it
-pub record CountedAt (w : Table) (x : ℕ) : Type 0 where
-  pub at : SoundAt w x
+pub record WithinCapacityAt (w : Table) (x : ℕ) : Type 0 where
+  pub at : HypermapAt w x
   pub room : capacity w ≤ 4096
 
 -- and two darts of it
-pub record CountedAtBoth (w : Table) (a b : ℕ) : Type 0 where
-  pub both : SoundAtBoth w a b
+pub record WithinCapacityAtBoth (w : Table) (a b : ℕ) : Type 0 where
+  pub both : HypermapAtBoth w a b
   pub room : capacity w ≤ 4096
 
 -- and a mark for each number
 pub record Marking (w : Table) (marks : List ℕ) : Type 0 where
-  pub sound : isSound w ≡ true
+  pub hypermap : holdsHypermap w ≡ true
   pub room : capacity w ≤ 4096
   pub size : length marks ≡ capacity w
 
@@ -78,11 +78,11 @@ pub record Skipped (marks : List ℕ) (x n to : ℕ) : Type 0 where
 
 -- a dart of a sound table, and marks for all darts
 pub record MarkingAt (w : Table) (x : ℕ) (marks : List ℕ) : Type 0 where
-  pub at : SoundAt w x
+  pub at : HypermapAt w x
   pub size : capacity w ≤ length marks
 
 -- value is written at each dart of a part, and nothing else
-pub record Painted (part : List ℕ) (value : ℕ) (before after : List ℕ) : Type 0 where
+pub record PartMarked (part : List ℕ) (value : ℕ) (before after : List ℕ) : Type 0 where
   pub inside : (y : ℕ) → among y part ≡ true → markAt after y ≡ value
   pub outside : (y : ℕ) → 1 ≤ y → among y part ≡ false → markAt after y ≡ markAt before y
 
@@ -94,7 +94,7 @@ abbrev pub markedIn : Table → (marks : List ℕ) → (value : ℕ) → Hyperma
 markedIn w m v = restrict (isMarked m v) (hypermapOf w)
 
 pub record MarkedSet (w : Table) (marks : List ℕ) (value : ℕ) : Type 0 where
-  pub sound : isSound w ≡ true
+  pub hypermap : holdsHypermap w ≡ true
   pub room : HasMarks w marks
   pub darts : (y : ℕ) → 1 ≤ y → isMarked marks value y ≡ true → isPresent w y ≡ true
   pub rest : (y : ℕ) → 1 ≤ y → isMarked marks value y ≡ false → markAt marks y ≡ 0
@@ -116,7 +116,7 @@ isTallied w x = not (isShort w x) || leb x (wordAt w x (nextWord edge))
 -- only a longer one is marked
 pub record EdgeLeft (w : Table) (x value : ℕ) (before after : List ℕ) : Type 0 where
   pub short : isShort w x ≡ true → after ≡ before
-  pub long : isShort w x ≡ false → Painted (orbitOf (hypermapOf w) (of edge) x) value before after
+  pub long : isShort w x ≡ false → PartMarked (orbitOf (hypermapOf w) (of edge) x) value before after
 
 -- what is found where all darts of a hypermap are flooded
 unfoldable pub floodedOf : Hypermap → Flooded

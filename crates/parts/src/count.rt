@@ -8,7 +8,7 @@ ghost use Rattle.hypermap.specs.Hypermap.{orbits, componentAt};
 ghost use Rattle.table.specs.Layout.{hypermapOf};
 ghost use Rattle.table.specs.Inner.{kindOf};
 ghost use Rattle.parts.specs.Counts.{lifts, countsOf};
-ghost use Rattle.parts.specs.Inner.{Counted, CountedAt, Few, HasGenus, Painted, MarkedSet, markedIn, Raised};
+ghost use Rattle.parts.specs.Inner.{WithinCapacity, WithinCapacityAt, Few, HasGenus, PartMarked, MarkedSet, markedIn, Raised};
 ghost use Rattle.parts.specs.Inner.{MarkedParts, floodedOf};
 use crate::Counts;
 use crate::Flooded;
@@ -19,11 +19,11 @@ use crate::marks::mark_of;
 use crate::marks::mark_orbit;
 use crate::marks::skip_marked;
 use table::Orbit;
-use table::command;
+use table::changes;
 use table::words;
 
 pub fn count_darts(table: &[u16]) -> u32
-    requires { ⌜ Counted (now table) ⌝ }
+    requires { ⌜ WithinCapacity (now table) ⌝ }
     ensures { λ r. ⌜ r ≡ length (hypermapOf (now (table .entry)) .darts) ⌝ }
 {
     let n = words::capacity_of(table);
@@ -42,10 +42,10 @@ pub fn count_darts(table: &[u16]) -> u32
 
 // Of the component of x: one, unless the dart is alone.
 pub fn component_lifts(table: &[u16], x: u16) -> u32
-    requires { ⌜ CountedAt (now table) x ⌝ }
+    requires { ⌜ WithinCapacityAt (now table) x ⌝ }
     ensures { λ r. ⌜ r ≡ lifts (componentAt (hypermapOf (now (table .entry))) x) ⌝ }
 {
-    if command::is_alone(table, x) { 0 } else { 1 }
+    if changes::is_alone(table, x) { 0 } else { 1 }
 }
 
 // MARKED DARTS
@@ -133,9 +133,9 @@ pub fn marked_counts(
 
 // Writes 1 at each dart, flooding one component after another. Behind a flood most numbers are marked.
 pub fn flood_all(table: &[u16], marks: &mut [u16]) -> Flooded
-    requires { ⌜ Counted (now table) × (now marks ≡ replicate 4096 0) ⌝ }
+    requires { ⌜ WithinCapacity (now table) × (now marks ≡ replicate 4096 0) ⌝ }
     ensures { λ r. ⌜ r ≡ floodedOf (hypermapOf (now (table .entry))) ⌝ }
-    ensures marks { λ _. ⌜ Painted (hypermapOf (now (table .entry)) .darts) 1
+    ensures marks { λ _. ⌜ PartMarked (hypermapOf (now (table .entry)) .darts) 1
         (now (marks .entry)) (now (marks .exit)) ⌝ }
 {
     let mut queue = [0u16; 4096];
@@ -163,7 +163,7 @@ pub fn flood_all(table: &[u16], marks: &mut [u16]) -> Flooded
 
 // Of all darts.
 pub fn counts(table: &[u16]) -> Counts
-    requires { ⌜ Counted (now table) ⌝ }
+    requires { ⌜ WithinCapacity (now table) ⌝ }
     ensures { λ r. ⌜ r ≡ countsOf (hypermapOf (now (table .entry))) ⌝ }
 {
     let mut marks = [0u16; 4096];
@@ -179,7 +179,7 @@ pub fn counts(table: &[u16]) -> Counts
 
 // Of the component of x, which alone is flooded.
 pub fn component_counts(table: &[u16], x: u16) -> Counts
-    requires { ⌜ CountedAt (now table) x ⌝ }
+    requires { ⌜ WithinCapacityAt (now table) x ⌝ }
     ensures { λ r. ⌜ r ≡ countsOf (componentAt (hypermapOf (now (table .entry))) x) ⌝ }
 {
     let lifts = component_lifts(table, x);

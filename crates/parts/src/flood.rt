@@ -5,12 +5,12 @@ ghost use mathlib.Core.Path.{_≡_};
 ghost use Rattle.hypermap.specs.Hypermap.{componentOf, componentAt, components, faces, sameComponent};
 ghost use Rattle.table.specs.Layout.{hypermapOf};
 ghost use Rattle.parts.specs.Marks.{componentMarks};
-ghost use Rattle.parts.specs.Inner.{CountedAtBoth, Marking, Painted};
-ghost use Rattle.parts.specs.Floods.{front, Entering, Entered, Dry};
+ghost use Rattle.parts.specs.Inner.{WithinCapacityAtBoth, Marking, PartMarked};
+ghost use Rattle.parts.specs.Floods.{front, Entering, Entered, Unmarked};
 use crate::marks::clear;
 use crate::marks::is_fresh;
+use crate::marks::mark_dart;
 use crate::marks::mark_of;
-use crate::marks::set_mark;
 use table::words;
 
 // Writes value at each dart of the face of y, and its edge predecessor into the queue.
@@ -29,7 +29,7 @@ pub fn enter(
     let mut at = y;
     let mut end = tail;
     loop {
-        set_mark(marks, at, value);
+        mark_dart(marks, at, value);
         let back = words::word(table, at, 1);
         queue[end] = back;
         end += 1;
@@ -42,9 +42,9 @@ pub fn enter(
 
 // Writes value at each dart of the component of x; the number of its faces.
 pub fn flood(table: &[u16], x: u16, value: u16, marks: &mut [u16], queue: &mut [u16]) -> u32
-    requires { ⌜ Dry (now table) x value (now marks) (now queue) ⌝ }
+    requires { ⌜ Unmarked (now table) x value (now marks) (now queue) ⌝ }
     ensures { λ r. ⌜ r ≡ faces (componentAt (hypermapOf (now (table .entry))) x) ⌝ }
-    ensures marks { λ _. ⌜ Painted (componentOf (hypermapOf (now (table .entry))) x) value
+    ensures marks { λ _. ⌜ PartMarked (componentOf (hypermapOf (now (table .entry))) x) value
         (now (marks .entry)) (now (marks .exit)) ⌝ }
 {
     let mut tail = enter(table, x, value, marks, queue, 0);
@@ -84,7 +84,7 @@ pub fn mark_components(table: &[u16], marks: &mut [u16]) -> u32
 
 // Whether b lies in the component of a, which alone is flooded.
 pub fn same_component(table: &[u16], a: u16, b: u16) -> bool
-    requires { ⌜ CountedAtBoth (now table) a b ⌝ }
+    requires { ⌜ WithinCapacityAtBoth (now table) a b ⌝ }
     ensures { λ r. ⌜ r ≡ sameComponent (hypermapOf (now (table .entry))) a b ⌝ }
 {
     let mut marks = [0u16; 4096];

@@ -7,7 +7,7 @@ ghost use Rattle.hypermap.specs.Hypermap.{orbitOf, orbits};
 ghost use Rattle.table.specs.Layout.{hypermapOf};
 ghost use Rattle.table.specs.Inner.{InTable, kindOf};
 ghost use Rattle.parts.specs.Marks.{orbitMarks};
-ghost use Rattle.parts.specs.Inner.{Marking, MarkingAt, HasMark, markAt, isFresh, Painted, HasFour, fourMarked};
+ghost use Rattle.parts.specs.Inner.{Marking, MarkingAt, HasMark, markAt, isFresh, PartMarked, HasFour, fourMarked};
 ghost use Rattle.parts.specs.Inner.{Skipping, Skipped};
 use table::Orbit;
 use table::walk;
@@ -21,7 +21,7 @@ pub fn mark_of(marks: &[u16], x: u16) -> u16
     marks[at]
 }
 
-pub fn set_mark(marks: &mut [u16], x: u16, value: u16)
+pub fn mark_dart(marks: &mut [u16], x: u16, value: u16)
     requires { ⌜ HasMark (now marks) x ⌝ }
     ensures { λ _. ⌜ now (marks .exit) ≡ set (now (marks .entry)) (x - 1) value ⌝ }
 {
@@ -82,12 +82,12 @@ pub fn skip_marked(marks: &[u16], x: u16, n: usize) -> u16
 // Writes value at each dart of the orbit of x.
 pub fn mark_orbit(table: &[u16], orbit: Orbit, x: u16, value: u16, marks: &mut [u16])
     requires { ⌜ MarkingAt (now table) x (now marks) ⌝ }
-    ensures { λ _. ⌜ Painted (orbitOf (hypermapOf (now (table .entry))) (kindOf orbit) x) value
+    ensures { λ _. ⌜ PartMarked (orbitOf (hypermapOf (now (table .entry))) (kindOf orbit) x) value
         (now (marks .entry)) (now (marks .exit)) ⌝ }
 {
     let mut at = x;
     loop {
-        set_mark(marks, at, value);
+        mark_dart(marks, at, value);
         at = walk::step(table, orbit, at);
         if at == x {
             return;

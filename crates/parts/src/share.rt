@@ -1,7 +1,7 @@
 // Whether two darts share a part.
 ghost use mathlib.Core.Path.{_≡_};
 ghost use Rattle.parts.specs.Sharing.{isSame};
-ghost use Rattle.parts.specs.Inner.{CountedAtBoth};
+ghost use Rattle.parts.specs.Inner.{WithinCapacityAtBoth};
 use crate::Part;
 use crate::flood;
 use table::Dimension;
@@ -9,7 +9,7 @@ use table::Orbit;
 use table::walk;
 
 pub fn is_same(table: &[u16], part: Part, a: u16, b: u16) -> bool
-    requires { ⌜ CountedAtBoth (now table) a b ⌝ }
+    requires { ⌜ WithinCapacityAtBoth (now table) a b ⌝ }
     ensures { λ r. ⌜ r ≡ isSame (now (table .entry)) part a b ⌝ }
 {
     match part {

@@ -1,6 +1,6 @@
 // Plays standard input on an empty table of 4,096 darts and writes a line for each command: `ok`, the report of 07, or
 // `refused` and the number, and then it ends. Document 01, "Plans to check".
-ghost use Rattle.parts.specs.Inner.{Counted};
+ghost use Rattle.parts.specs.Inner.{WithinCapacity};
 use libc::STDIN_FILENO;
 use parts::count;
 use tape::Instruction;
@@ -16,7 +16,7 @@ const MAX_TAPE: usize = 65536;
 
 // The line of an accepted command.
 fn write_accepted(table: &[u16], instruction: Instruction, out: &mut [u8], at: usize) -> usize
-    requires { ⌜ Counted (now table) ⌝ }
+    requires { ⌜ WithinCapacity (now table) ⌝ }
 {
     match instruction {
         Instruction::Report => text::write_report(out, at, count::counts(table)),
@@ -26,7 +26,7 @@ fn write_accepted(table: &[u16], instruction: Instruction, out: &mut [u8], at: u
 
 // The inner step keeps the table sound, so soundness is not judged again for each command.
 fn run(table: &mut [u16], tape: &[u8], out: &mut [u8])
-    requires { ⌜ Counted (now table) ⌝ }
+    requires { ⌜ WithinCapacity (now table) ⌝ }
 {
     let operand_bytes = operands::OPERAND_BYTES;
     let mut at = 0;
@@ -37,9 +37,9 @@ fn run(table: &mut [u16], tape: &[u8], out: &mut [u8])
             text::end_refused(out, at, decode::number_of(reading));
             return;
         };
-        let fault = step::perform(table, rest, instruction);
-        if fault != 0 {
-            text::end_refused(out, at, fault);
+        let refusal = step::perform(table, rest, instruction);
+        if refusal != 0 {
+            text::end_refused(out, at, refusal);
             return;
         }
         at = write_accepted(table, instruction, out, at);
@@ -54,7 +54,7 @@ fn main() {
     let mut out = [0u8; 65536];
     let n = io::read_full(STDIN_FILENO, &mut tape);
     if MAX_TAPE < n {
-        text::end_refused(&mut out, 0, table::refusal::WRONG_SIZE);
+        text::end_refused(&mut out, 0, table::refusals::WRONG_SIZE);
         return;
     }
     let mut table = [0u16; 16384];

@@ -9,8 +9,8 @@ use borrow.Author.Tests.{lt-leb}
 use Rattle.table.specs.Refusals.{noList, orElse, unless}
 use Rattle.table.specs.Layout.{Table}
 use Rattle.table.specs.Commands.{leaves}
-use Rattle.rings.specs.Rings.{isList, ringFault, cutAlong, linksOf}
-use Rattle.kernel.specs.Calls.{tableFault, ringCallFault, ringCallLeaves}
+use Rattle.rings.specs.Rings.{isList, ringRefusal, cutAlong, linksOf}
+use Rattle.kernel.specs.Calls.{tableRefusal, ringCallRefusal, ringCallLeaves}
 
 never : (a b c : Bool) → c ≡ false → (a && b && c) ≡ false
 never true true c e = e
@@ -25,8 +25,8 @@ noneIsNone : isList [] ≡ false
 unfolding isList
 noneIsNone = refl
 
-refused : (w : Table) (ws : List ℕ) → isList ws ≡ false → ringCallFault w ws ≡ orElse (tableFault w) noList
-unfolding ringCallFault ringFault orElse unless
+refused : (w : Table) (ws : List ℕ) → isList ws ≡ false → ringCallRefusal w ws ≡ orElse (tableRefusal w) noList
+unfolding ringCallRefusal ringRefusal orElse unless
 refused w ws e = simp e
 
 unchanged : (n : ℕ) (v w : Table) → leaves (orElse n noList) v w ≡ w
@@ -40,11 +40,11 @@ unchanged n v w = byTest (eqb n 0) refl
 refusedLeaves : (w : Table) (ws : List ℕ) → isList ws ≡ false → ringCallLeaves w ws ≡ w
 unfolding ringCallLeaves
 refusedLeaves w ws e =
-    ap (λ (n : ℕ). leaves n (cutAlong (linksOf ws) w) w) (refused w ws e) ∙ unchanged (tableFault w) _ w
+    ap (λ (n : ℕ). leaves n (cutAlong (linksOf ws) w) w) (refused w ws e) ∙ unchanged (tableRefusal w) _ w
 
 pub longAsNone :
     (w : Table) (ws : List ℕ) → 4096 < length ws →
-    (ringCallFault w ws ≡ ringCallFault w []) × (ringCallLeaves w ws ≡ ringCallLeaves w [])
+    (ringCallRefusal w ws ≡ ringCallRefusal w []) × (ringCallLeaves w ws ≡ ringCallLeaves w [])
 longAsNone w ws l = (
   refused w ws (longIsNone ws l) ∙ sym (refused w [] noneIsNone),
   refusedLeaves w ws (longIsNone ws l) ∙ sym (refusedLeaves w [] noneIsNone),

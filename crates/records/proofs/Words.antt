@@ -10,7 +10,7 @@ use lib.ListN.{length, getD, take, set, length-set}
 use lib.Seq.{take-suc, take-suc-set, take-length}
 use Rattle.table.specs.Layout.{Table}
 use Rattle.records.specs.declared.DoubleLink.{DoubleLink}
-use Rattle.kernel.specs.Calls.{ringCallFault, ringCallLeaves}
+use Rattle.kernel.specs.Calls.{ringCallRefusal, ringCallLeaves}
 use Rattle.records.specs.Records.{wordsOf, fitted}
 use Rattle.records.proofs.Calls.{longAsNone}
 
@@ -79,14 +79,14 @@ lengthWords (l ∷ ls) = ap (λ (k : ℕ). suc (suc k)) (lengthWords ls) ∙ nex
 -- to cut along the words that fit is to cut along all
 pub fittedCalls :
     (w : Table) (ls : List DoubleLink) →
-    (ringCallFault w (wordsOf (take (fitted (length ls)) ls)) ≡ ringCallFault w (wordsOf ls)) ×
+    (ringCallRefusal w (wordsOf (take (fitted (length ls)) ls)) ≡ ringCallRefusal w (wordsOf ls)) ×
     (ringCallLeaves w (wordsOf (take (fitted (length ls)) ls)) ≡ ringCallLeaves w (wordsOf ls))
 unfolding fitted wordsOf
 fittedCalls w ls = calls (ltb 2048 (length ls)) refl
   where
     calls :
         (t : Bool) → ltb 2048 (length ls) ≡ t →
-        (ringCallFault w (wordsOf (take (cond t 0 (length ls)) ls)) ≡ ringCallFault w (wordsOf ls)) ×
+        (ringCallRefusal w (wordsOf (take (cond t 0 (length ls)) ls)) ≡ ringCallRefusal w (wordsOf ls)) ×
         (ringCallLeaves w (wordsOf (take (cond t 0 (length ls)) ls)) ≡ ringCallLeaves w (wordsOf ls))
     calls true e = (sym (long .0), sym (long .1))
       where
@@ -94,9 +94,9 @@ fittedCalls w ls = calls (ltb 2048 (length ls)) refl
         many = ltb→lt 2048 (length ls) (subst T (sym e) tt)
 
         long :
-            (ringCallFault w (wordsOf ls) ≡ ringCallFault w []) × (ringCallLeaves w (wordsOf ls) ≡ ringCallLeaves w [])
+            (ringCallRefusal w (wordsOf ls) ≡ ringCallRefusal w []) × (ringCallLeaves w (wordsOf ls) ≡ ringCallLeaves w [])
         long = longAsNone w (wordsOf ls) (omega (arith, many, lengthWords ls))
     calls false e = (
-      ap (λ (ks : List DoubleLink). ringCallFault w (wordsOf ks)) (take-length ls),
+      ap (λ (ks : List DoubleLink). ringCallRefusal w (wordsOf ks)) (take-length ls),
       ap (λ (ks : List DoubleLink). ringCallLeaves w (wordsOf ks)) (take-length ls),
     )

@@ -3,7 +3,7 @@
 ghost use mathlib.Core.Path.{_≡_};
 ghost use Prim.Native.Nat.{_*_};
 ghost use lib.ListN.{take};
-ghost use Rattle.kernel.specs.Calls.{ringCallFault, ringCallLeaves};
+ghost use Rattle.kernel.specs.Calls.{ringCallRefusal, ringCallLeaves};
 ghost use Rattle.records.specs.Records.{fitted, BeginsWith};
 use crate::DoubleLink;
 use kernel::ring_cut;
@@ -34,7 +34,7 @@ pub fn flatten(ring: &[DoubleLink]) -> [u16; 4096]
 
 // The cut along the words of n double-links.
 pub fn cut_front(table: &mut [u16], words: [u16; 4096], n: usize) -> u8
-    ensures { λ r. ⌜ r ≡ ringCallFault (now (table .entry)) (take (2 * fitted n) words) ⌝ }
+    ensures { λ r. ⌜ r ≡ ringCallRefusal (now (table .entry)) (take (2 * fitted n) words) ⌝ }
     ensures table { λ r. ⌜ now (table .exit) ≡ ringCallLeaves (now (table .entry)) (take (2 * fitted n) words) ⌝ }
 {
     let e = 2 * fit(n);

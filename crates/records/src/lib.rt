@@ -1,6 +1,6 @@
 // A ring lent as records: its words are copied into a local array, and `ring_cut` is lent that.
 ghost use mathlib.Core.Path.{_≡_};
-ghost use Rattle.kernel.specs.Calls.{ringCallFault, ringCallLeaves};
+ghost use Rattle.kernel.specs.Calls.{ringCallRefusal, ringCallLeaves};
 ghost use Rattle.records.specs.Records.{wordsOf};
 
 mod flatten;
@@ -13,7 +13,7 @@ pub struct DoubleLink {
 
 // The break along a ring: what `ring_cut` answers and leaves for its words.
 pub fn ring_cut_records(table: &mut [u16], ring: &[DoubleLink]) -> u8
-    ensures { λ r. ⌜ r ≡ ringCallFault (now (table .entry)) (wordsOf (now (ring .entry))) ⌝ }
+    ensures { λ r. ⌜ r ≡ ringCallRefusal (now (table .entry)) (wordsOf (now (ring .entry))) ⌝ }
     ensures table { λ r. ⌜ now (table .exit) ≡ ringCallLeaves (now (table .entry)) (wordsOf (now (ring .entry))) ⌝ }
 {
     flatten::cut_front(table, flatten::flatten(ring), ring.len())

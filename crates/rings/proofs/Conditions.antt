@@ -15,10 +15,10 @@ use Rattle.hypermap.proofs.Basics.Bools.{clash, andLeft, andRight, andTrue}
 use Rattle.table.specs.Refusals.{noList, apart, sameTab, tieTwice, gapTwice, pathBroken}
 use Rattle.table.specs.Refusals.{orElse, unless}
 use Rattle.table.specs.Layout.{Table, isPresent, hypermapOf}
-use Rattle.table.specs.Commands.{presenceFault}
-use Rattle.table.proofs.Soundness.{memPresent}
-use Rattle.table.proofs.Faults.{passed, fitting, allPresent, presentFits}
-use Rattle.rings.specs.Rings.{linksOf, maxRing, isList, pairsTogether, pathCloses, conditionFault, ringFault}
+use Rattle.table.specs.Commands.{presenceRefusal}
+use Rattle.table.proofs.Holding.{memPresent}
+use Rattle.table.proofs.Stages.{passed, fitting, allPresent, presentFits}
+use Rattle.rings.specs.Rings.{linksOf, maxRing, isList, pairsTogether, pathCloses, conditionRefusal, ringRefusal}
 use Rattle.rings.specs.Laws.{isRingOf, ConditionsLaw}
 
 -- THE LIST
@@ -115,13 +115,13 @@ pub record Accepted (w : Table) (ws : List ℕ) : Type 0 where
   pub together : pairsTogether (hypermapOf w) (linksOf ws) ≡ true
   pub fit : Fitting (hypermapOf w) (linksOf ws)
 
-pub acceptedList : (w : Table) (ws : List ℕ) → ringFault w ws ≡ 0 → Accepted w ws
-unfolding ringFault conditionFault
+pub acceptedList : (w : Table) (ws : List ℕ) → ringRefusal w ws ≡ 0 → Accepted w ws
+unfolding ringRefusal conditionRefusal
 acceptedList w ws e =
     let m = hypermapOf w in
     let ls = linksOf ws in
     let a = passed (unless (isList ws) noList) _ e in
-    let b = passed (presenceFault w ws) (conditionFault m ls) (a .1) in
+    let b = passed (presenceRefusal w ws) (conditionRefusal m ls) (a .1) in
     let c = passed (unless (pairsTogether m ls) apart) _ (b .1) in
     let d = passed (unless (pairsDiffer ls) sameTab) _ (c .1) in
     let f = passed (unless (unicity m ls) tieTwice) _ (d .1) in
@@ -138,8 +138,8 @@ acceptedList w ws e =
       };
     }
 
-acceptable : (w : Table) (ws : List ℕ) → Accepted w ws → ringFault w ws ≡ 0
-unfolding ringFault conditionFault orElse unless
+acceptable : (w : Table) (ws : List ℕ) → Accepted w ws → ringRefusal w ws ≡ 0
+unfolding ringRefusal conditionRefusal orElse unless
 acceptable w ws a =
     let f = a .fit in
     rw (a .list, presentFits w ws (a .darts), a .together, f .differ, f .edges, f .faces, f .path)

@@ -13,9 +13,9 @@ use Rattle.hypermap.proofs.Hypermaps.RingTests.{ringDarts}
 use Rattle.hypermap.proofs.Hypermaps.Alike.{Agrees, answersAgree, partedAgrees}
 use Rattle.hypermap.proofs.Laws.Breaks.{standsAfter}
 use Rattle.hypermap.proofs.Laws.Jordan.{breakDarts, jordanTheorem, planarJordanTheorem}
-use Rattle.table.specs.Layout.{Table, isSound, hypermapOf}
-use Rattle.table.proofs.Soundness.{soundHypermap}
-use Rattle.rings.specs.Rings.{linksOf, ringFault, cutAlong}
+use Rattle.table.specs.Layout.{Table, holdsHypermap, hypermapOf}
+use Rattle.table.proofs.Holding.{tableHypermap}
+use Rattle.rings.specs.Rings.{linksOf, ringRefusal, cutAlong}
 use Rattle.rings.specs.Laws.{isRingOf, IsCut, areDarts, PartingLaw, PlanarPartingLaw}
 use Rattle.rings.proofs.Cuts.{holdsAgrees, cutLaw}
 use Rattle.rings.proofs.Conditions.{ringTo, conditionsLaw}
@@ -32,15 +32,15 @@ doubleDarts m (l ∷ ls) t =
 linksAreDarts : (m : Hypermap) (ls : List DoubleLink) → isRingOf m ls ≡ true → areDarts m ls ≡ true
 linksAreDarts m ls r = doubleDarts m ls (ringTo m ls r .0)
 
-pub acceptedDarts : (w : Table) (ws : List ℕ) → ringFault w ws ≡ 0 → areDarts (hypermapOf w) (linksOf ws) ≡ true
+pub acceptedDarts : (w : Table) (ws : List ℕ) → ringRefusal w ws ≡ 0 → areDarts (hypermapOf w) (linksOf ws) ≡ true
 acceptedDarts w ws e = linksAreDarts (hypermapOf w) (linksOf ws) (conditionsLaw w ws .0 e .1)
 
 -- a ring leaves a sound table that holds the break
-pub acceptedCut : (w : Table) (ws : List ℕ) → isSound w ≡ true → ringFault w ws ≡ 0 → IsCut w (linksOf ws)
+pub acceptedCut : (w : Table) (ws : List ℕ) → holdsHypermap w ≡ true → ringRefusal w ws ≡ 0 → IsCut w (linksOf ws)
 acceptedCut w ws s e = cutLaw w (linksOf ws) s (acceptedDarts w ws e)
 
 module _
-    (w : Table) (l : DoubleLink) (ls : List DoubleLink) (s : isSound w ≡ true)
+    (w : Table) (l : DoubleLink) (ls : List DoubleLink) (s : holdsHypermap w ≡ true)
     (ring : isRingOf (hypermapOf w) (l ∷ ls) ≡ true) where
   abbrev m : Hypermap
   m = hypermapOf w
@@ -59,7 +59,7 @@ module _
   pairs = (andLeft (isRing m l ls) (pairsDiffer (l ∷ ls)) ring, andRight (isRing m l ls) (pairsDiffer (l ∷ ls)) ring)
 
   wf : isHypermap m ≡ true
-  wf = soundHypermap w s
+  wf = tableHypermap w s
 
   wfBroken : isHypermap broken ≡ true
   wfBroken = standsAfter m wf l ls (pairs .0) (pairs .1) .hypermap
@@ -71,23 +71,23 @@ module _
   parted p =
       let e = breakDarts (l ∷ ls) m in
       let d = ringDarts m wf l ls (pairs .0) .0 in
-      partedAgrees broken (hypermapOf v) wfBroken (soundHypermap v (isCut .sound)) agrees m l ls e
+      partedAgrees broken (hypermapOf v) wfBroken (tableHypermap v (isCut .hypermap)) agrees m l ls e
       (rw e (d .inFirst)) (rw e (d .inSecond)) p
 
   planar : isPlanar broken ≡ true → isPlanar (hypermapOf v) ≡ true
   planar t =
-      let a = answersAgree broken (hypermapOf v) wfBroken (soundHypermap v (isCut .sound)) agrees in
+      let a = answersAgree broken (hypermapOf v) wfBroken (tableHypermap v (isCut .hypermap)) agrees in
       ap (λ g. eqb g 0) (a .sameGenus) ∙ t
 
 pub partingLaw : PartingLaw
 partingLaw w ws l ls s e q p =
     let r = rw q at (conditionsLaw w ws .0 e .1) in
     let i = pairs w l ls s r in
-    rw q (parted w l ls s r (jordanTheorem (hypermapOf w) (soundHypermap w s) l ls (i .0) (i .1) p))
+    rw q (parted w l ls s r (jordanTheorem (hypermapOf w) (tableHypermap w s) l ls (i .0) (i .1) p))
 
 pub planarPartingLaw : PlanarPartingLaw
 planarPartingLaw w ws l ls s e q p =
     let r = rw q at (conditionsLaw w ws .0 e .1) in
     let i = pairs w l ls s r in
-    let j = planarJordanTheorem (hypermapOf w) (soundHypermap w s) l ls (i .0) (i .1) p in
+    let j = planarJordanTheorem (hypermapOf w) (tableHypermap w s) l ls (i .0) (i .1) p in
     rw q (parted w l ls s r (j .0), planar w l ls s r (j .1))

@@ -8,9 +8,9 @@ use lib.ListN.{length}
 use Rattle.hypermap.specs.Hypermap.{Hypermap, isDart, isPlanar, componentAt}
 use Rattle.hypermap.specs.Ring.{DoubleLink, allLinks, isRing, pairsDiffer, breakAlong}
 use Rattle.hypermap.specs.RingLaws.{IsParted}
-use Rattle.table.specs.Layout.{Table, isSound, hypermapOf}
+use Rattle.table.specs.Layout.{Table, holdsHypermap, hypermapOf}
 use Rattle.table.specs.Laws.{Holds}
-use Rattle.rings.specs.Rings.{linksOf, isList, ringFault, cutAlong}
+use Rattle.rings.specs.Rings.{linksOf, isList, ringRefusal, cutAlong}
 
 -- a ring by 2.7 whose pairs differ; no list of no double-links is one
 unfoldable pub isRingOf : Hypermap → List DoubleLink → Bool
@@ -21,12 +21,12 @@ isRingOf m (l ∷ ls) = isRing m l ls && pairsDiffer (l ∷ ls)
 abbrev pub ConditionsLaw : Type 0
 ConditionsLaw =
     (w : Table) (ws : List ℕ) →
-    (ringFault w ws ≡ 0) ↔ ((isList ws ≡ true) × (isRingOf (hypermapOf w) (linksOf ws) ≡ true))
+    (ringRefusal w ws ≡ 0) ↔ ((isList ws ≡ true) × (isRingOf (hypermapOf w) (linksOf ws) ≡ true))
 
 -- the changes of words make the break of 2.8
 pub record IsCut (w : Table) (ls : List DoubleLink) : Type 0 where
   pub size : length (cutAlong ls w) ≡ length w
-  pub sound : isSound (cutAlong ls w) ≡ true
+  pub hypermap : holdsHypermap (cutAlong ls w) ≡ true
   pub holds : Holds (cutAlong ls w) (breakAlong ls (hypermapOf w))
 
 abbrev pub areDarts : Hypermap → List DoubleLink → Bool
@@ -34,19 +34,19 @@ areDarts m ls = allLinks (λ l. isDart m (l .first) && isDart m (l .second)) ls
 
 abbrev pub CutLaw : Type 0
 CutLaw =
-    (w : Table) (ls : List DoubleLink) → isSound w ≡ true → areDarts (hypermapOf w) ls ≡ true → IsCut w ls
+    (w : Table) (ls : List DoubleLink) → holdsHypermap w ≡ true → areDarts (hypermapOf w) ls ≡ true → IsCut w ls
 
 -- Theorem 2.9 for an accepted list: only the ring's own component need be planar
 abbrev pub PartingLaw : Type 0
 PartingLaw =
-    (w : Table) (ws : List ℕ) (l : DoubleLink) (ls : List DoubleLink) → isSound w ≡ true → ringFault w ws ≡ 0 →
+    (w : Table) (ws : List ℕ) (l : DoubleLink) (ls : List DoubleLink) → holdsHypermap w ≡ true → ringRefusal w ws ≡ 0 →
     linksOf ws ≡ l ∷ ls → isPlanar (componentAt (hypermapOf w) (l .first)) ≡ true →
     IsParted (hypermapOf w) (hypermapOf (cutAlong (linksOf ws) w)) l ls
 
 -- on a planar hypermap, which stays planar
 abbrev pub PlanarPartingLaw : Type 0
 PlanarPartingLaw =
-    (w : Table) (ws : List ℕ) (l : DoubleLink) (ls : List DoubleLink) → isSound w ≡ true → ringFault w ws ≡ 0 →
+    (w : Table) (ws : List ℕ) (l : DoubleLink) (ls : List DoubleLink) → holdsHypermap w ≡ true → ringRefusal w ws ≡ 0 →
     linksOf ws ≡ l ∷ ls → isPlanar (hypermapOf w) ≡ true →
     IsParted (hypermapOf w) (hypermapOf (cutAlong (linksOf ws) w)) l ls ×
     (isPlanar (hypermapOf (cutAlong (linksOf ws) w)) ≡ true)

@@ -9,7 +9,7 @@ use Rattle.hypermap.specs.Hypermap.{edge, Hypermap, sameEdge}
 use Rattle.hypermap.specs.Ring.{DoubleLink, allLinks, unicity, continuity, closure, simplicity, pairsDiffer}
 use Rattle.table.specs.Refusals.{noList, apart, sameTab, tieTwice, gapTwice, pathBroken, orElse, unless}
 use Rattle.table.specs.Layout.{Table, hypermapOf}
-use Rattle.table.specs.Commands.{swapped, presenceFault, leaves}
+use Rattle.table.specs.Commands.{swapped, presenceRefusal, leaves}
 
 -- the double-links that a list of words holds; document 01's crossings
 unfoldable pub linksOf : (words : List ℕ) → List DoubleLink
@@ -34,17 +34,17 @@ pathCloses m [] = true
 pathCloses m (l ∷ ls) = continuity m l ls && closure m l ls
 
 -- each condition over the whole list before the next
-unfoldable pub conditionFault : Hypermap → List DoubleLink → ℕ
-conditionFault m ls =
+unfoldable pub conditionRefusal : Hypermap → List DoubleLink → ℕ
+conditionRefusal m ls =
     orElse (unless (pairsTogether m ls) apart)
     (orElse (unless (pairsDiffer ls) sameTab)
     (orElse (unless (unicity m ls) tieTwice)
     (orElse (unless (simplicity m ls) gapTwice) (unless (pathCloses m ls) pathBroken))))
 
-unfoldable pub ringFault : Table → (words : List ℕ) → ℕ
-ringFault w ws =
+unfoldable pub ringRefusal : Table → (words : List ℕ) → ℕ
+ringRefusal w ws =
     orElse (unless (isList ws) noList)
-    (orElse (presenceFault w ws) (conditionFault (hypermapOf w) (linksOf ws)))
+    (orElse (presenceRefusal w ws) (conditionRefusal (hypermapOf w) (linksOf ws)))
 
 -- THE CUT: the change of each double-link in turn, in four words
 unfoldable pub cutAlong : List DoubleLink → Table → Table
@@ -52,4 +52,4 @@ cutAlong [] w = w
 cutAlong (l ∷ ls) w = cutAlong ls (swapped edge (l .first) (l .second) w)
 
 unfoldable pub ringLeaves : Table → (words : List ℕ) → Table
-ringLeaves w ws = leaves (ringFault w ws) (cutAlong (linksOf ws) w) w
+ringLeaves w ws = leaves (ringRefusal w ws) (cutAlong (linksOf ws) w) w

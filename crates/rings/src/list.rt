@@ -3,9 +3,9 @@ ghost use mathlib.Core.Path.{_≡_};
 ghost use Rattle.hypermap.specs.Lists.{all};
 ghost use Rattle.hypermap.specs.Ring.{pairsDiffer};
 ghost use Rattle.table.specs.Layout.{isNumber, isPresent};
-ghost use Rattle.table.specs.Commands.{presenceFault};
+ghost use Rattle.table.specs.Commands.{presenceRefusal};
 ghost use Rattle.rings.specs.Rings.{linksOf, isList};
-use table::refusal;
+use table::refusals;
 use table::words;
 
 // Words that a list may have.
@@ -46,13 +46,13 @@ fn are_present(table: &[u16], ring: &[u16]) -> bool
 }
 
 // 3 for a word off the table, 4 for one that is no dart, else 0.
-pub fn words_fault(table: &[u16], ring: &[u16]) -> u8
-    ensures { λ r. ⌜ r ≡ presenceFault (now (table .entry)) (now (ring .entry)) ⌝ }
+pub fn words_refusal(table: &[u16], ring: &[u16]) -> u8
+    ensures { λ r. ⌜ r ≡ presenceRefusal (now (table .entry)) (now (ring .entry)) ⌝ }
 {
     if !are_numbers(table, ring) {
-        return refusal::OFF_THE_TABLE;
+        return refusals::OFF_THE_TABLE;
     }
-    refusal::unless_so(are_present(table, ring), refusal::NO_TAB)
+    refusals::unless_so(are_present(table, ring), refusals::NO_TAB)
 }
 
 // Whether the two darts of each double-link differ.

@@ -1,13 +1,13 @@
 pub mod Numbers
 pub mod Ranges
 pub mod Reading
-pub mod Soundness
+pub mod Holding
 pub mod HalfTest
 pub mod Following
 pub mod Walking
 pub mod Seeking
 pub mod Writing
-pub mod Faults
+pub mod Stages
 pub mod Filling
 pub mod Swaps
 pub mod Accepting

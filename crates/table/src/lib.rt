@@ -1,9 +1,9 @@
 // A lent table: reading, soundness, walks and changes. Inner functions: they may require a sound table.
 
-pub mod change;
-pub mod command;
-pub mod refusal;
-pub mod sound;
+pub mod changes;
+pub mod hypermap_test;
+pub mod refusals;
+pub mod store;
 pub mod walk;
 pub mod words;
 

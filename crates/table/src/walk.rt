@@ -6,7 +6,7 @@ ghost use lib.ListN.{length, drop};
 ghost use Rattle.hypermap.specs.Hypermap.{step as stepOf, orbitOf, sameOrbit};
 ghost use Rattle.table.specs.Layout.{wordAt, nextWord, hypermapOf};
 ghost use Rattle.table.specs.Commands.{isTogether};
-ghost use Rattle.table.specs.Inner.{SoundAt, SoundAtBoth, HasRoom, dimensionOf, kindOf};
+ghost use Rattle.table.specs.Inner.{HypermapAt, HypermapAtBoth, RoomForOrbit, dimensionOf, kindOf};
 use crate::Dimension;
 use crate::Orbit;
 use crate::words::next_word;
@@ -14,7 +14,7 @@ use crate::words::word;
 
 // The successor of a dart.
 pub fn next(table: &[u16], d: Dimension, x: u16) -> u16
-    requires { ⌜ SoundAt (now table) x ⌝ }
+    requires { ⌜ HypermapAt (now table) x ⌝ }
     ensures { λ r. ⌜ r ≡ wordAt (now (table .entry)) x (nextWord (dimensionOf d)) ⌝ }
 {
     word(table, x, next_word(d))
@@ -22,7 +22,7 @@ pub fn next(table: &[u16], d: Dimension, x: u16) -> u16
 
 // The step of an orbit. Of a face: the edge predecessor, and then its vertex predecessor.
 pub fn step(table: &[u16], orbit: Orbit, x: u16) -> u16
-    requires { ⌜ SoundAt (now table) x ⌝ }
+    requires { ⌜ HypermapAt (now table) x ⌝ }
     ensures { λ r. ⌜ r ≡ stepOf (hypermapOf (now (table .entry))) (kindOf orbit) x ⌝ }
 {
     match orbit {
@@ -34,7 +34,7 @@ pub fn step(table: &[u16], orbit: Orbit, x: u16) -> u16
 
 // Whether b lies in the orbit of a: one walk from a, until it meets b or is home.
 pub fn in_orbit(table: &[u16], orbit: Orbit, a: u16, b: u16) -> bool
-    requires { ⌜ SoundAtBoth (now table) a b ⌝ }
+    requires { ⌜ HypermapAtBoth (now table) a b ⌝ }
     ensures { λ r. ⌜ r ≡ sameOrbit (hypermapOf (now (table .entry))) (kindOf orbit) a b ⌝ }
 {
     let mut at = a;
@@ -51,7 +51,7 @@ pub fn in_orbit(table: &[u16], orbit: Orbit, a: u16, b: u16) -> bool
 
 // The number of darts of an orbit.
 pub fn orbit_length(table: &[u16], orbit: Orbit, x: u16) -> u32
-    requires { ⌜ SoundAt (now table) x ⌝ }
+    requires { ⌜ HypermapAt (now table) x ⌝ }
     ensures { λ r. ⌜ r ≡ length (orbitOf (hypermapOf (now (table .entry))) (kindOf orbit) x) ⌝ }
 {
     let mut at = x;
@@ -68,7 +68,7 @@ pub fn orbit_length(table: &[u16], orbit: Orbit, x: u16) -> u32
 
 // Writes an orbit to the front of out, in walking order.
 pub fn write_orbit(table: &[u16], orbit: Orbit, x: u16, out: &mut [u16])
-    requires { ⌜ HasRoom (now table) (kindOf orbit) x (now out) ⌝ }
+    requires { ⌜ RoomForOrbit (now table) (kindOf orbit) x (now out) ⌝ }
     ensures { λ _. ⌜ now (out .exit) ≡ orbitOf (hypermapOf (now (table .entry))) (kindOf orbit) x ++
         drop (length (orbitOf (hypermapOf (now (table .entry))) (kindOf orbit) x)) (now (out .entry)) ⌝ }
 {
@@ -87,7 +87,7 @@ pub fn write_orbit(table: &[u16], orbit: Orbit, x: u16, out: &mut [u16])
 // Whether a and b lie in one edge or vertex. Walks from both in lockstep, so the cost is that of the shorter orbit. The
 // walk from b goes first: on a canonical tape the second dart of a join is alone.
 pub fn is_together(table: &[u16], d: Dimension, a: u16, b: u16) -> bool
-    requires { ⌜ SoundAtBoth (now table) a b ⌝ }
+    requires { ⌜ HypermapAtBoth (now table) a b ⌝ }
     ensures { λ r. ⌜ r ≡ isTogether (now (table .entry)) (dimensionOf d) a b ⌝ }
 {
     let mut x = a;

@@ -8,8 +8,8 @@ use lib.Dec.{leb}
 use lib.ListN.{length, length-drop}
 use borrow.Author.Tests.{eq-eqb, ne-eqb, leb-true}
 use Rattle.table.specs.Refusals.{unless, unknownCommand, tornCommand}
-use Rattle.table.proofs.Faults.{passed, fitting}
-use Rattle.tape.specs.Tapes.{isCommand, commandSize, byteOf, sizeOf, commandOf, readFault, restOf}
+use Rattle.table.proofs.Stages.{passed, fitting}
+use Rattle.tape.specs.Tapes.{isCommand, commandSize, byteOf, sizeOf, commandOf, readRefusal, restOf}
 use Rattle.tape.specs.Tapes.{endedBy, after, contentsBy, contentsOf}
 use Rattle.tape.specs.Laws.{ReadingLaw}
 
@@ -18,8 +18,8 @@ pub sizeSome : (bs : List ℕ) → 1 ≤ sizeOf bs
 unfolding sizeOf commandSize
 sizeSome bs = omega arith
 
-pub sizeFits : (bs : List ℕ) → readFault bs ≡ 0 → sizeOf bs ≤ length bs
-unfolding readFault
+pub sizeFits : (bs : List ℕ) → readRefusal bs ≡ 0 → sizeOf bs ≤ length bs
+unfolding readRefusal
 sizeFits bs e =
     leb-true (sizeOf bs) (length bs)
     (fitting (leb (sizeOf bs) (length bs)) tornCommand (omega arith)
@@ -48,19 +48,19 @@ unfolding contentsBy
 readNone [] e = refl
 readNone (b ∷ bs) e = absurd (omega arith)
 
-readRefused : (bs : List ℕ) → 0 < length bs → (readFault bs ≡ 0 → ⊥) → contentsOf bs ≡ endedBy (readFault bs)
+readRefused : (bs : List ℕ) → 0 < length bs → (readRefusal bs ≡ 0 → ⊥) → contentsOf bs ≡ endedBy (readRefusal bs)
 unfolding contentsBy
 readRefused [] p d = absurd (omega arith)
-readRefused (b ∷ bs) p d = rw (ne-eqb (readFault (b ∷ bs)) 0 d)
+readRefused (b ∷ bs) p d = rw (ne-eqb (readRefusal (b ∷ bs)) 0 d)
 
 readFirst :
-    (bs : List ℕ) → 0 < length bs → readFault bs ≡ 0 →
+    (bs : List ℕ) → 0 < length bs → readRefusal bs ≡ 0 →
     contentsOf bs ≡ after (commandOf bs) (contentsOf (restOf bs))
 unfolding contentsBy
 readFirst [] p e = absurd (omega arith)
 readFirst (b ∷ bs) p e =
     let r = restShorter (b ∷ bs) p in
-    rw (eq-eqb (readFault (b ∷ bs)) 0 e)
+    rw (eq-eqb (readRefusal (b ∷ bs)) 0 e)
     (ap (after (commandOf (b ∷ bs)))
     (fuelSuffices (length bs) (length (restOf (b ∷ bs))) (restOf (b ∷ bs)) (omega arith) (omega arith)))
 

@@ -13,7 +13,7 @@ use borrow.Author.Tests.{leb-true, ltb-true, lt-ltb, le-leb, lt-leb, ne-eqb}
 use Rattle.hypermap.specs.Lists.{all}
 use Rattle.hypermap.proofs.Basics.Bools.{byCases, andLeft, andRight}
 use Rattle.table.specs.Refusals.{orElse, unless}
-use Rattle.tape.specs.Tapes.{operandBytes, isCommand, commandSize, byteOf, sizeOf, readFault}
+use Rattle.tape.specs.Tapes.{operandBytes, isCommand, commandSize, byteOf, sizeOf, readRefusal}
 use Rattle.tape.specs.Tapes.{numberAt, numbersFrom}
 use Rattle.tape.specs.Inner.{Reads}
 use Rattle.tape.specs.declared.Reading.the-variants.{Refused}
@@ -67,12 +67,12 @@ pub record Sized (bs : List ℕ) (n : ℕ) : Type 0 where
 
 module _ {bs : List ℕ} {n : ℕ} (s : Sized bs n) where
   pub tornReads : length bs < n → Reads bs (Refused 16)
-  unfolding readFault orElse unless
+  unfolding readRefusal orElse unless
   tornReads l = (rw (s .known, ← (s .size), lt-leb _ _ l), λ z. omega arith)
 
-  pub wholeFault : n ≤ length bs → readFault bs ≡ 0
-  unfolding readFault orElse unless
-  wholeFault l = rw (s .known, ← (s .size), le-leb _ _ l)
+  pub wholeRefusal : n ≤ length bs → readRefusal bs ≡ 0
+  unfolding readRefusal orElse unless
+  wholeRefusal l = rw (s .known, ← (s .size), le-leb _ _ l)
 
 -- the bytes of a command other than a ring are its entry's
 pub plainSized : (bs : List ℕ) (b n : ℕ) → b ≡ byteOf bs → 1 ≤ b → b ≤ 7 → n ≡ commandSize b → Sized bs n
@@ -97,7 +97,7 @@ lastOfFour b p q n₃ n₄ n₅ = let l = above 5 b n₅ (above 4 b n₄ (above 
 pub unknownReads :
     (bs : List ℕ) (b : ℕ) → b ≡ byteOf bs → (b ≡ 1 → ⊥) → (b ≡ 2 → ⊥) → (b ≡ 3 → ⊥) → (b ≡ 4 → ⊥) →
     (b ≡ 5 → ⊥) → (b ≡ 6 → ⊥) → (b ≡ 7 → ⊥) → (b ≡ 8 → ⊥) → Reads bs (Refused 15)
-unfolding readFault orElse unless isCommand
+unfolding readRefusal orElse unless isCommand
 unknownReads bs b e n₁ n₂ n₃ n₄ n₅ n₆ n₇ n₈ =
     let none : isCommand b ≡ false =
     byCases (isCommand b)

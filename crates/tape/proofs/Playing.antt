@@ -8,9 +8,9 @@ use borrow.Author.Tests.{eq-eqb, ne-eqb}
 use borrow.Rule.Slice.PartAt.{part-to-end}
 use Rattle.table.specs.Layout.{Table}
 use Rattle.table.specs.Commands.{leaves}
-use Rattle.parts.specs.Inner.{Counted}
-use Rattle.tape.specs.Steps.{stepFault, stepOn, stepLeaves}
-use Rattle.tape.specs.Tapes.{Contents, commandOf, readFault, restOf}
+use Rattle.parts.specs.Inner.{WithinCapacity}
+use Rattle.tape.specs.Steps.{stepRefusal, stepOn, stepLeaves}
+use Rattle.tape.specs.Tapes.{Contents, commandOf, readRefusal, restOf}
 use Rattle.tape.specs.Runs.{Outcome, stopped, oneMore, runOver, runOf, toldOf}
 use Rattle.tape.specs.Inner.{meaning, numberOf, Reads, Playable}
 use Rattle.tape.specs.declared.Instruction.{Instruction}
@@ -18,7 +18,7 @@ use Rattle.tape.specs.declared.Reading.{Reading}
 use Rattle.tape.specs.declared.Reading.the-variants.{Whole, Refused}
 use Rattle.tape.specs.declared.Run.{Run}
 use Rattle.tape.proofs.Contents.{sizeFits, restShorter, readingLaw}
-use Rattle.tape.proofs.Running.{stepSound}
+use Rattle.tape.proofs.Running.{stepHolds}
 
 -- A RUN by its first command
 abbrev runThrough : Table → Contents → Outcome
@@ -30,18 +30,18 @@ module _ (w : Table) (bs : List ℕ) where
   runNone e = ap (runThrough w) (readingLaw bs .none e)
 
   module _ (some : 0 < length bs) where
-    runRefused : (readFault bs ≡ 0 → ⊥) → runOf w bs ≡ stopped (readFault bs) w
+    runRefused : (readRefusal bs ≡ 0 → ⊥) → runOf w bs ≡ stopped (readRefusal bs) w
     unfolding runOver
     runRefused d = ap (runThrough w) (readingLaw bs .refused some d)
 
-    module _ (e : readFault bs ≡ 0) where
-      runStopped : (stepFault w (commandOf bs) ≡ 0 → ⊥) → runOf w bs ≡ stopped (stepFault w (commandOf bs)) w
+    module _ (e : readRefusal bs ≡ 0) where
+      runStopped : (stepRefusal w (commandOf bs) ≡ 0 → ⊥) → runOf w bs ≡ stopped (stepRefusal w (commandOf bs)) w
       unfolding runOver
-      runStopped d = ap (runThrough w) (readingLaw bs .read some e) ∙ rw (ne-eqb (stepFault w (commandOf bs)) 0 d)
+      runStopped d = ap (runThrough w) (readingLaw bs .read some e) ∙ rw (ne-eqb (stepRefusal w (commandOf bs)) 0 d)
 
-      runOn : stepFault w (commandOf bs) ≡ 0 → runOf w bs ≡ oneMore (runOf (stepOn w (commandOf bs)) (restOf bs))
+      runOn : stepRefusal w (commandOf bs) ≡ 0 → runOf w bs ≡ oneMore (runOf (stepOn w (commandOf bs)) (restOf bs))
       unfolding runOver
-      runOn z = ap (runThrough w) (readingLaw bs .read some e) ∙ rw (eq-eqb (stepFault w (commandOf bs)) 0 z)
+      runOn z = ap (runThrough w) (readingLaw bs .read some e) ∙ rw (eq-eqb (stepRefusal w (commandOf bs)) 0 z)
 
 -- A COMMAND READ WHOLE lies on the tape, and has a byte
 module _ (bs : List ℕ) (r : Reading) (a : Reads bs r) (i : Instruction) (n : ℕ) (b : r ≡ Whole i n) where
@@ -74,7 +74,7 @@ told o n k w e = let z : k + 0 ≡ k = omega arith in rw (e, z) (refl, refl)
 -- from w₀ and the whole tape, k commands on
 pub record Playing (w₀ : Table) (tape : List ℕ) (w : Table) (rest : List ℕ) (k : ℕ) : Type 0 where
   pub few : k + length rest ≤ length tape
-  pub table : Counted w
+  pub table : WithinCapacity w
   pub size : length w ≡ length w₀
   pub same : runOf w₀ tape ≡ later k (runOf w rest)
 
@@ -91,9 +91,9 @@ module _ (w₀ : Table) (tape : List ℕ) (w : Table) (rest : List ℕ) (k : ℕ
     pub playingRefused : (n m : ℕ) → r ≡ Refused n → m ≡ numberOf r → Told (runOf w₀ tape) m k w
     playingRefused n m b e =
         let q : Reads rest (Refused n) = rw b at a in
-        let g : m ≡ readFault rest = rw (b, q .0) at e in
+        let g : m ≡ readRefusal rest = rw (b, q .0) at e in
         rw g
-        (told (runOf w₀ tape) (readFault rest) k w
+        (told (runOf w₀ tape) (readRefusal rest) k w
         (h .same ∙ ap (later k) (runRefused w rest some (λ z. q .1 (q .0 ∙ z)))))
 
     module _ (i : Instruction) (n : ℕ) (b : r ≡ Whole i n) where
@@ -102,28 +102,28 @@ module _ (w₀ : Table) (tape : List ℕ) (w : Table) (rest : List ℕ) (k : ℕ
 
       -- its command has the fault f and leaves v
       module _
-          (f : ℕ) (e : f ≡ stepFault w (meaning rest i)) (v : Table) (l : v ≡ stepLeaves w (meaning rest i)) where
+          (f : ℕ) (e : f ≡ stepRefusal w (meaning rest i)) (v : Table) (l : v ≡ stepLeaves w (meaning rest i)) where
         pub playingStopped : (f ≡ 0 → ⊥) → Told (runOf w₀ tape) f k v
         unfolding leaves
         playingStopped d =
-            let g : f ≡ stepFault w (commandOf rest) = rw (whole .1) at e in
-            let u : v ≡ w = l ∙ rw (ne-eqb (stepFault w (meaning rest i)) 0 (λ z. d (e ∙ z))) in
+            let g : f ≡ stepRefusal w (commandOf rest) = rw (whole .1) at e in
+            let u : v ≡ w = l ∙ rw (ne-eqb (stepRefusal w (meaning rest i)) 0 (λ z. d (e ∙ z))) in
             rw (u, g)
-            (told (runOf w₀ tape) (stepFault w (commandOf rest)) k w
+            (told (runOf w₀ tape) (stepRefusal w (commandOf rest)) k w
             (h .same ∙ ap (later k) (runStopped w rest some (whole .0) (λ z. d (g ∙ z)))))
 
         pub playingOn : f ≡ 0 → Playing w₀ tape v (take (length rest - n) (drop n rest)) (k + 1)
         unfolding leaves
         playingOn z =
-            let g : stepFault w (commandOf rest) ≡ 0 = rw (whole .1) at (sym e ∙ z) in
+            let g : stepRefusal w (commandOf rest) ≡ 0 = rw (whole .1) at (sym e ∙ z) in
             let u : v ≡ stepOn w (commandOf rest) =
-            l ∙ rw (eq-eqb (stepFault w (meaning rest i)) 0 (sym e ∙ z), whole .1) in
-            let s = stepSound w (commandOf rest) (h .table .sound) g in
+            l ∙ rw (eq-eqb (stepRefusal w (meaning rest i)) 0 (sym e ∙ z), whole .1) in
+            let s = stepHolds w (commandOf rest) (h .table .hypermap) g in
             let x = restShorter rest some in
             rw (part-to-end, u, whole .2)
             (record {
               few = omega (arith, h .few);
-              table = record { sound = s .0; room = rw (s .1) (h .table .room) };
+              table = record { hypermap = s .0; room = rw (s .1) (h .table .room) };
               size = s .1 ∙ h .size;
               same = h .same ∙ ap (later k) (runOn w rest some (whole .0) g) ∙ laterOne k _;
             })

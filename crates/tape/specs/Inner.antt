@@ -6,9 +6,9 @@ use lib.ListN.{length}
 use Rattle.hypermap.specs.Hypermap.{edge, vertex}
 use Rattle.table.specs.Layout.{Table}
 use Rattle.table.specs.Commands.{puts, takesOut, joins, cuts}
-use Rattle.parts.specs.Inner.{Counted}
+use Rattle.parts.specs.Inner.{WithinCapacity}
 use Rattle.tape.specs.Steps.{TapeCommand, changes, reports, cutsRing}
-use Rattle.tape.specs.Tapes.{operandBytes, byteOf, sizeOf, commandOf, readFault, numbersFrom}
+use Rattle.tape.specs.Tapes.{operandBytes, byteOf, sizeOf, commandOf, readRefusal, numbersFrom}
 use Rattle.tape.specs.declared.Instruction.{Instruction}
 use Rattle.tape.specs.declared.Instruction.the-variants.{Put, TakeOut, EdgeJoin, EdgeCut, VertexJoin, VertexCut}
 use Rattle.tape.specs.declared.Instruction.the-variants.{Report, RingCut}
@@ -40,10 +40,10 @@ numberOf (Refused n) = n
 
 -- what an answer tells of the tape: the first command and its bytes, or why it cannot be read
 abbrev pub Reads : (tape : List ℕ) → Reading → Type 0
-Reads bs (Whole i n) = (readFault bs ≡ 0) × (meaning bs i ≡ commandOf bs) × (n ≡ sizeOf bs)
-Reads bs (Refused n) = (n ≡ readFault bs) × (n ≡ 0 → ⊥)
+Reads bs (Whole i n) = (readRefusal bs ≡ 0) × (meaning bs i ≡ commandOf bs) × (n ≡ sizeOf bs)
+Reads bs (Refused n) = (n ≡ readRefusal bs) × (n ≡ 0 → ⊥)
 
 -- PLAYING: a sound table, and a tape whose commands a u32 can count
 pub record Playable (w : Table) (tape : List ℕ) : Type 0 where
-  pub table : Counted w
+  pub table : WithinCapacity w
   pub short : length tape ≤ 65536

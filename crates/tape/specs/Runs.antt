@@ -5,7 +5,7 @@ use mathlib.Core.List.{List, [], _∷_}
 use Prim.Native.Nat.{ℕ, suc}
 use lib.Dec.{eqb}
 use Rattle.table.specs.Layout.{Table}
-use Rattle.tape.specs.Steps.{TapeCommand, stepFault, stepOn}
+use Rattle.tape.specs.Steps.{TapeCommand, stepRefusal, stepOn}
 use Rattle.tape.specs.Tapes.{contentsOf}
 use Rattle.tape.specs.declared.Run.{Run}
 
@@ -25,7 +25,7 @@ oneMore o = record { number = o .number; accepted = suc (o .accepted); table = o
 unfoldable pub runOver : Table → List TapeCommand → (n : ℕ) → Outcome
 runOver w [] n = stopped n w
 runOver w (c ∷ cs) n =
-    cond (eqb (stepFault w c) 0) (oneMore (runOver (stepOn w c) cs n)) (stopped (stepFault w c) w)
+    cond (eqb (stepRefusal w c) 0) (oneMore (runOver (stepOn w c) cs n)) (stopped (stepRefusal w c) w)
 
 abbrev pub runOf : Table → (tape : List ℕ) → Outcome
 runOf w bs = runOver w (contentsOf bs .commands) (contentsOf bs .refusal)

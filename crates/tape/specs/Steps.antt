@@ -3,18 +3,18 @@
 use mathlib.Core.List.{List}
 use Prim.Native.Nat.{ℕ}
 use Rattle.table.specs.Layout.{Table}
-use Rattle.table.specs.Commands.{Command, commandFault, commandOn, leaves}
-use Rattle.rings.specs.Rings.{linksOf, ringFault, cutAlong}
+use Rattle.table.specs.Commands.{Command, commandRefusal, commandOn, leaves}
+use Rattle.rings.specs.Rings.{linksOf, ringRefusal, cutAlong}
 
 pub data TapeCommand : Type 0 where
   changes : Command → TapeCommand
   reports : TapeCommand
   cutsRing : (words : List ℕ) → TapeCommand
 
-abbrev pub stepFault : Table → TapeCommand → ℕ
-stepFault w (changes c) = commandFault w c
-stepFault w reports = 0
-stepFault w (cutsRing ws) = ringFault w ws
+abbrev pub stepRefusal : Table → TapeCommand → ℕ
+stepRefusal w (changes c) = commandRefusal w c
+stepRefusal w reports = 0
+stepRefusal w (cutsRing ws) = ringRefusal w ws
 
 -- a report changes nothing
 abbrev pub stepOn : Table → TapeCommand → Table
@@ -23,4 +23,4 @@ stepOn w reports = w
 stepOn w (cutsRing ws) = cutAlong (linksOf ws) w
 
 abbrev pub stepLeaves : Table → TapeCommand → Table
-stepLeaves w c = leaves (stepFault w c) (stepOn w c) w
+stepLeaves w c = leaves (stepRefusal w c) (stepOn w c) w

@@ -49,8 +49,8 @@ commandOf bs =
     (cond (eqb (byteOf bs) 7) reports (cutsRing (numbersFrom (2 * getD bs 1 0) 2 bs))))))))
 
 -- 15 for a byte that is no command, 16 where the tape ends inside the command
-unfoldable pub readFault : (tape : List ℕ) → ℕ
-readFault bs = orElse (unless (isCommand (byteOf bs)) unknownCommand) (unless (leb (sizeOf bs) (length bs)) tornCommand)
+unfoldable pub readRefusal : (tape : List ℕ) → ℕ
+readRefusal bs = orElse (unless (isCommand (byteOf bs)) unknownCommand) (unless (leb (sizeOf bs) (length bs)) tornCommand)
 
 -- the tape behind the first command
 abbrev pub restOf : (tape : List ℕ) → List ℕ
@@ -72,8 +72,8 @@ unfoldable pub contentsBy : (fuel : ℕ) → (tape : List ℕ) → Contents
 contentsBy zero bs = endedBy 0
 contentsBy (suc n) [] = endedBy 0
 contentsBy (suc n) (b ∷ bs) =
-    cond (eqb (readFault (b ∷ bs)) 0) (after (commandOf (b ∷ bs)) (contentsBy n (restOf (b ∷ bs))))
-    (endedBy (readFault (b ∷ bs)))
+    cond (eqb (readRefusal (b ∷ bs)) 0) (after (commandOf (b ∷ bs)) (contentsBy n (restOf (b ∷ bs))))
+    (endedBy (readRefusal (b ∷ bs)))
 
 abbrev pub contentsOf : (tape : List ℕ) → Contents
 contentsOf bs = contentsBy (length bs) bs

@@ -7,7 +7,7 @@ ghost use Rattle.tape.specs.Inner.{StartsBy, numberOf, Reads};
 use crate::Instruction;
 use crate::Reading;
 use crate::operands;
-use table::refusal;
+use table::refusals;
 
 // A byte of the tape, 0 behind its end.
 fn byte_at(tape: &[u8], i: usize) -> u8
@@ -46,7 +46,7 @@ fn one_dart(tape: &[u8], byte: u8, operand_bytes: &[u8; 9]) -> Reading
 {
     let size = operands::command_size(operand_bytes, byte);
     if tape.len() < size {
-        return Reading::Refused(refusal::TORN_COMMAND);
+        return Reading::Refused(refusals::TORN_COMMAND);
     }
     let x = number_at(tape, 1);
     let instruction = match byte {
@@ -63,7 +63,7 @@ fn two_darts(tape: &[u8], byte: u8, operand_bytes: &[u8; 9]) -> Reading
 {
     let size = operands::command_size(operand_bytes, byte);
     if tape.len() < size {
-        return Reading::Refused(refusal::TORN_COMMAND);
+        return Reading::Refused(refusals::TORN_COMMAND);
     }
     let a = number_at(tape, 1);
     let b = number_at(tape, 3);
@@ -83,7 +83,7 @@ fn ring(tape: &[u8], operand_bytes: &[u8; 9]) -> Reading
     let n = byte_at(tape, 1);
     let size = operands::command_size(operand_bytes, operands::RING_CUT) + 4 * operands::wide(n);
     if tape.len() < size {
-        return Reading::Refused(refusal::TORN_COMMAND);
+        return Reading::Refused(refusals::TORN_COMMAND);
     }
     Reading::Whole(Instruction::RingCut(n), size)
 }
@@ -109,7 +109,7 @@ pub fn read(tape: &[u8], operand_bytes: &[u8; 9]) -> Reading
             )
         }
         operands::RING_CUT => ring(tape, operand_bytes),
-        _ => Reading::Refused(refusal::UNKNOWN_COMMAND),
+        _ => Reading::Refused(refusals::UNKNOWN_COMMAND),
     }
 }
 

@@ -24,10 +24,10 @@ pub fn play(table: &mut [u16], tape: &[u8]) -> Run
                 accepted: accepted,
             };
         };
-        let fault = step::perform(table, rest, instruction);
-        if fault != 0 {
+        let refusal = step::perform(table, rest, instruction);
+        if refusal != 0 {
             return Run {
-                number: fault,
+                number: refusal,
                 accepted: accepted,
             };
         }

@@ -8,12 +8,12 @@ use native.Mathlib.Omega.{arith}
 use lib.ListN.{length, length-map, replicate}
 use borrow.Author.Tests.{eq-eqb}
 use Rattle.hypermap.specs.Hypermap.{Dimension, edge, vertex, isDart}
-use Rattle.table.specs.Layout.{Table, wordsPerDart, capacity, wordAt, nextWord, backWord, isPresent, isSound}
+use Rattle.table.specs.Layout.{Table, wordsPerDart, capacity, wordAt, nextWord, backWord, isPresent, holdsHypermap}
 use Rattle.table.specs.Layout.{hypermapOf}
 use Rattle.table.specs.Laws.{Holds}
-use Rattle.table.proofs.Soundness.{low, high, memPresent, links, soundHypermap}
+use Rattle.table.proofs.Holding.{low, high, memPresent, links, tableHypermap}
 use Rattle.table.proofs.OnlyTables.{tableLaw}
-use Rattle.tape.specs.Steps.{TapeCommand, changes, stepFault, stepOn}
+use Rattle.tape.specs.Steps.{TapeCommand, changes, stepRefusal, stepOn}
 use Rattle.tape.specs.Runs.{runOver, runOf, oneMore}
 use Rattle.writer.specs.Canonical.{putsOf, joinsOf, commandsOf, tapeOf}
 use Rattle.tape.specs.Laws.{stepsOn, AllAccepted}
@@ -30,10 +30,10 @@ pub runWhole :
 unfolding runOver
 runWhole w [] n a = refl
 runWhole w (c ∷ cs) n a =
-    rw (eq-eqb (stepFault w c) 0 (a .0)) (ap oneMore (runWhole (stepOn w c) cs n (a .1)))
+    rw (eq-eqb (stepRefusal w c) 0 (a .0)) (ap oneMore (runWhole (stepOn w c) cs n (a .1)))
 
 -- TABLES of the same darts and successors: the predecessors are the same too
-module _ (v w : Table) (sv : isSound v ≡ true) (sw : isSound w ≡ true) (d : hypermapOf v .darts ≡ hypermapOf w .darts)
+module _ (v w : Table) (sv : holdsHypermap v ≡ true) (sw : holdsHypermap w ≡ true) (d : hypermapOf v .darts ≡ hypermapOf w .darts)
     (next : (k : Dimension) (x : ℕ) → isPresent w x ≡ true → wordAt v x (nextWord k) ≡ wordAt w x (nextWord k)) where
   sameBack : (k : Dimension) (x : ℕ) → isPresent w x ≡ true → wordAt v x (backWord k) ≡ wordAt w x (backWord k)
   sameBack k x p =
@@ -57,7 +57,7 @@ module _ (v w : Table) (sv : isSound v ≡ true) (sw : isSound w ≡ true) (d : 
 
   pub sameTable : length v ≡ wordsPerDart * capacity w → length w ≡ wordsPerDart * capacity w → v ≡ w
   sameTable zv zw =
-      let t = tableLaw (capacity w) (hypermapOf w) (soundHypermap w sw) within in
+      let t = tableLaw (capacity w) (hypermapOf w) (tableHypermap w sw) within in
       t .unique v zv sv sameHolds ∙
       sym (t .unique w zw sw (record { darts = refl; next = λ k x m. refl; back = λ k x m. refl }))
 
@@ -67,20 +67,20 @@ edgeVertex e = let z : _≡_ {A = ℕ} 0 1 = cc in omega arith
 
 module _ (w v u : Table) (a : PutAll w v) where
   edgesUnjoined : Unjoined w v edge
-  edgesUnjoined = record { size = a .size; sound = a .sound; darts = a .darts; alone = a .alone edge }
+  edgesUnjoined = record { size = a .size; hypermap = a .hypermap; darts = a .darts; alone = a .alone edge }
 
   module _ (b : Rejoined w v u edge) where
     verticesUnjoined : Unjoined w u vertex
     verticesUnjoined = record {
       size = b .size;
-      sound = b .sound;
+      hypermap = b .hypermap;
       darts = b .darts;
       alone = λ x p. b .other vertex (λ e. edgeVertex (sym e)) x p ∙ a .alone vertex x p;
     }
 
     bothRejoined :
-        (t : Table) → Rejoined w u t vertex → isSound w ≡ true → length w ≡ wordsPerDart * capacity w → t ≡ w
-    bothRejoined t c s z = sameTable t w (c .sound) s (c .darts) next (c .size ∙ z) z
+        (t : Table) → Rejoined w u t vertex → holdsHypermap w ≡ true → length w ≡ wordsPerDart * capacity w → t ≡ w
+    bothRejoined t c s z = sameTable t w (c .hypermap) s (c .darts) next (c .size ∙ z) z
       where
         next : (k : Dimension) (x : ℕ) → isPresent w x ≡ true → wordAt t x (nextWord k) ≡ wordAt w x (nextWord k)
         next edge x p = c .other edge edgeVertex x p ∙ b .next x p
@@ -88,7 +88,7 @@ module _ (w v u : Table) (a : PutAll w v) where
 
 -- THE TAPE
 built :
-    (w : Table) → isSound w ≡ true → length w ≡ wordsPerDart * capacity w →
+    (w : Table) → holdsHypermap w ≡ true → length w ≡ wordsPerDart * capacity w →
     AllAccepted (replicate (length w) 0) (map changes (commandsOf w)) ×
     (stepsOn (replicate (length w) 0) (map changes (commandsOf w)) ≡ w)
 built w s z =

@@ -14,9 +14,9 @@ use Rattle.hypermap.proofs.Permutations.Reaching.{ride}
 use Rattle.hypermap.proofs.Permutations.Splicing.{swapFirst, swapSecond, swapElse, swapCases}
 use Rattle.hypermap.proofs.Laws.Orbits.{orbitLaw}
 use Rattle.hypermap.proofs.Laws.Changes.{changeLaw}
-use Rattle.table.specs.Layout.{Table, wordAt, nextWord, isPresent, hypermapOf, isSound}
-use Rattle.table.specs.Commands.{joins, swapped, isTogether, commandFault}
-use Rattle.table.proofs.Soundness.{memPresent, soundHypermap}
+use Rattle.table.specs.Layout.{Table, wordAt, nextWord, isPresent, hypermapOf, holdsHypermap}
+use Rattle.table.specs.Commands.{joins, swapped, isTogether, commandRefusal}
+use Rattle.table.proofs.Holding.{memPresent, tableHypermap}
 use Rattle.table.proofs.Accepting.{joinFits}
 use Rattle.table.proofs.Swaps.{swapLaw}
 use Rattle.tape.specs.Steps.{TapeCommand, changes, stepOn}
@@ -38,23 +38,23 @@ samePresent v w d x = sym (memPresent v x) ∙ ap (among x) d ∙ memPresent w x
 
 -- A JOIN with t alone: what t reaches is t
 module _
-    (u : Table) (s : isSound u ≡ true) (k : Dimension) (a t : ℕ) (pa : isPresent u a ≡ true)
+    (u : Table) (s : holdsHypermap u ≡ true) (k : Dimension) (a t : ℕ) (pa : isPresent u a ≡ true)
     (pt : isPresent u t ≡ true) (d : a ≡ t → ⊥) (alone : wordAt u t (nextWord k) ≡ t) where
   notTogether : isTogether u k a t ≡ false
   unfolding isTogether
   notTogether =
-      let o = orbitLaw (hypermapOf u) (soundHypermap u s) (of k) in
+      let o = orbitLaw (hypermapOf u) (tableHypermap u s) (of k) in
       let f : ℕ → ℕ = λ x. wordAt u x (nextWord k) in
       refuted _ (λ m. let r = o .1 .symmetric a t (memPresent u a ∙ pa) m in
       d (ride f (λ z. z ≡ t) (λ z e. ap f e ∙ alone) t a (o .0 t (memPresent u t ∙ pt) .members a .0 r) refl))
 
-  joinAccepted : commandFault u (joins k a t) ≡ 0
+  joinAccepted : commandRefusal u (joins k a t) ≡ 0
   joinAccepted = joinFits u k a t (record { first = pa; second = pt; apart = notTogether })
 
 -- u has the darts of w, g as their successor in dimension k, and the successors of v in the other
 pub record Turned (w v u : Table) (k : Dimension) (g : ℕ → ℕ) : Type 0 where
   pub size : length u ≡ length w
-  pub sound : isSound u ≡ true
+  pub hypermap : holdsHypermap u ≡ true
   pub darts : hypermapOf u .darts ≡ hypermapOf w .darts
   pub next : (x : ℕ) → isPresent w x ≡ true → wordAt u x (nextWord k) ≡ g x
   pub other :
@@ -65,15 +65,15 @@ module _ (w v : Table) (k : Dimension) where
   joined :
       (u : Table) (g : ℕ → ℕ) → Turned w v u k g → (a t : ℕ) → isPresent w a ≡ true → isPresent w t ≡ true →
       (a ≡ t → ⊥) → g t ≡ t →
-      (commandFault u (joins k a t) ≡ 0) × Turned w v (swapped k a t u) k (λ x. swap a t (g x))
+      (commandRefusal u (joins k a t) ≡ 0) × Turned w v (swapped k a t u) k (λ x. swap a t (g x))
   joined u g h a t pa pt d e =
       let same = samePresent u w (h .darts) in
-      let i = swapLaw u (h .sound) k a t (same a ∙ pa) (same t ∙ pt) in
+      let i = swapLaw u (h .hypermap) k a t (same a ∙ pa) (same t ∙ pt) in
       let c = changeLaw (hypermapOf u) k a t .0 in (
-        joinAccepted u (h .sound) k a t (same a ∙ pa) (same t ∙ pt) d (h .next t pt ∙ e),
+        joinAccepted u (h .hypermap) k a t (same a ∙ pa) (same t ∙ pt) d (h .next t pt ∙ e),
         record {
           size = i .size ∙ h .size;
-          sound = i .sound;
+          hypermap = i .hypermap;
           darts = i .holds .darts ∙ h .darts;
           next = λ x p.
               i .holds .next k x (memPresent u x ∙ same x ∙ p) ∙

@@ -7,12 +7,12 @@ use lib.ListN.{length, drop}
 use Rattle.hypermap.specs.Hypermap.{Dimension, of}
 use Rattle.table.specs.Layout.{Table, wordAt, nextWord, backWord, hypermapOf}
 use Rattle.table.specs.Commands.{joins}
-use Rattle.table.specs.Inner.{SoundAt}
-use Rattle.table.proofs.Soundness.{links}
-use Rattle.table.proofs.Walking.{On, wayHome, onFirst, wayFirst, soundOn, onNext, wayEnds, wayGoes, nearer}
+use Rattle.table.specs.Inner.{HypermapAt}
+use Rattle.table.proofs.Holding.{links}
+use Rattle.table.proofs.Walking.{On, wayHome, onFirst, wayFirst, hypermapOn, onNext, wayEnds, wayGoes, nearer}
 use Rattle.tape.specs.Tapes.{bytesOf, tapeBytes}
 use Rattle.writer.specs.Canonical.{orbitJoins}
-use Rattle.writer.specs.Inner.{HasRoom, Lays, OrbitRoom}
+use Rattle.writer.specs.Inner.{HasRoom, Lays, OrbitJoinsRoom}
 use Rattle.writer.proofs.Laying.{Laying, layingNone, layingThen, layingAll, roomFirst}
 
 -- the joins of all darts after z
@@ -35,11 +35,11 @@ orbitLeft : (w : Table) (k : Dimension) (x : ℕ) → tapeBytes (orbitJoins (hyp
 unfolding orbitJoins
 orbitLeft w k x = ap (λ l. tapeBytes (map (joins k x) (drop 1 l))) (wayFirst w (of k) x)
 
-module _ {w : Table} {k : Dimension} {x from : ℕ} {o : List ℕ} (r : OrbitRoom w k x from o) where
+module _ {w : Table} {k : Dimension} {x from : ℕ} {o : List ℕ} (r : OrbitJoinsRoom w k x from o) where
   -- before the dart that follows z
   module _ {z y : ℕ} (on : On w (of k) x z) (e : y ≡ wordAt w z (nextWord k)) where
     isBehind : behind w k y ≡ z
-    isBehind = let s = soundOn (r .dart) on in rw e (links w (s .sound) k z (s .here) .backNext)
+    isBehind = let s = hypermapOn (r .dart) on in rw e (links w (s .hypermap) k z (s .here) .backNext)
 
     stands :
         {q : List ℕ} {at : ℕ} →
@@ -53,8 +53,8 @@ module _ {w : Table} {k : Dimension} {x from : ℕ} {o : List ℕ} (r : OrbitRoo
     here : On w (of k) x y
     here = onNext (r .dart) (j .last) (j .next)
 
-    pub joiningSound : SoundAt w y
-    joiningSound = soundOn (r .dart) here
+    pub joiningAt : HypermapAt w y
+    joiningAt = hypermapOn (r .dart) here
 
     joiningHere :
         (y ≡ x → ⊥) →

@@ -13,14 +13,14 @@ use Rattle.hypermap.specs.Hypermap.{Dimension}
 use Rattle.hypermap.proofs.Basics.Bools.{byCases, clash, refuted, orFalse, orRight}
 use Rattle.hypermap.proofs.Basics.Lists.{Mem, memHead, memTail, distinctHead, distinctTail, keepExt, risingKeep}
 use Rattle.hypermap.proofs.Basics.Lists.{risingDistinct}
-use Rattle.table.specs.Layout.{Table, capacity, numbers, wordAt, nextWord, isPresent, isSound, hypermapOf}
-use Rattle.table.specs.Commands.{withAll, puts, commandFault}
+use Rattle.table.specs.Layout.{Table, capacity, numbers, wordAt, nextWord, isPresent, holdsHypermap, hypermapOf}
+use Rattle.table.specs.Commands.{withAll, puts, commandRefusal}
 use Rattle.table.proofs.Numbers.{numbersRising}
-use Rattle.table.proofs.Soundness.{low, high, presentFrom, memPresent}
+use Rattle.table.proofs.Holding.{low, high, presentFrom, memPresent}
 use Rattle.table.proofs.Writing.{nextSmall}
-use Rattle.table.proofs.Zeros.{zerosSound, zerosNone}
+use Rattle.table.proofs.Zeros.{zerosHold, zerosNone}
 use Rattle.table.proofs.Accepting.{putFits}
-use Rattle.table.proofs.Commands.{allLength, here, elsewhere, soundnessLaw, presentElsewhere}
+use Rattle.table.proofs.Commands.{allLength, here, elsewhere, keepsHypermapLaw, presentElsewhere}
 use Rattle.tape.specs.Steps.{changes}
 use Rattle.writer.specs.Canonical.{putsOf}
 use Rattle.tape.specs.Laws.{stepsOn, AllAccepted}
@@ -38,7 +38,7 @@ module _ (v : Table) (x : ℕ) (l : 1 ≤ x) (h : x ≤ capacity v) where
 -- PUTS of the darts of w, that have left v, with some of them yet to come
 record Puts (w v : Table) (left : List ℕ) : Type 0 where
   size : length v ≡ length w
-  sound : isSound v ≡ true
+  hypermap : holdsHypermap v ≡ true
   once : distinct left ≡ true
   either : (y : ℕ) → isPresent w y ≡ (isPresent v y || among y left)
   apart : (y : ℕ) → Mem y left → isPresent v y ≡ false
@@ -54,16 +54,16 @@ module _ (w v : Table) (x : ℕ) (xs : List ℕ) (p : Puts w v (x ∷ xs)) where
   dartHigh : x ≤ capacity v
   dartHigh = rw (p .size) (high w x dartOf)
 
-  dartAccepted : commandFault v (puts x) ≡ 0
+  dartAccepted : commandRefusal v (puts x) ≡ 0
   dartAccepted = putFits v x (record { low = dartLow; high = dartHigh; absent = p .apart x (memHead x xs) })
 
   dartPut : Puts w (withAll x x v) xs
   unfolding among
   dartPut =
-      let s = soundnessLaw v (p .sound) (puts x) dartAccepted in
+      let s = keepsHypermapLaw v (p .hypermap) (puts x) dartAccepted in
       record {
         size = s .1 ∙ p .size;
-        sound = s .0;
+        hypermap = s .0;
         once = distinctTail x xs (p .once);
         either = λ y. p .either y ∙ rw (putPresent v x dartLow dartHigh y)
             (byCases (eqb y x) (λ t. rw t (orRight (isPresent v y) true refl)) (λ t. rw t));
@@ -86,7 +86,7 @@ putting w (x ∷ xs) v p =
 -- ALL PUTS
 pub record PutAll (w v : Table) : Type 0 where
   pub size : length v ≡ length w
-  pub sound : isSound v ≡ true
+  pub hypermap : holdsHypermap v ≡ true
   pub darts : hypermapOf v .darts ≡ hypermapOf w .darts
   pub alone : (k : Dimension) (x : ℕ) → isPresent w x ≡ true → wordAt v x (nextWord k) ≡ x
 
@@ -96,7 +96,7 @@ allPut w v p =
     let same : (y : ℕ) → isPresent v y ≡ isPresent w y = λ y. sym (p .either y ∙ orFalse _) in
     record {
       size = p .size;
-      sound = p .sound;
+      hypermap = p .hypermap;
       darts = rw (p .size) (keepExt (isPresent v) (isPresent w) (numbers w) (λ y m. same y));
       alone = λ k x q. p .alone k x (same x ∙ q);
     }
@@ -106,7 +106,7 @@ zerosPuts w =
     let none = zerosNone (length w) in
     record {
       size = length-replicate (length w) 0;
-      sound = zerosSound (length w);
+      hypermap = zerosHold (length w);
       once = risingDistinct _ (risingKeep (isPresent w) (numbers w) (numbersRising w));
       either = λ y. sym (rw (none y) (memPresent w y));
       apart = λ y m. none y;

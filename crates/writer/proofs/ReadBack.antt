@@ -12,7 +12,7 @@ use Rattle.hypermap.specs.Hypermap.{edge, vertex}
 use Rattle.table.specs.Refusals.{orElse, unless}
 use Rattle.table.specs.Commands.{Command, puts, takesOut, joins, cuts}
 use Rattle.tape.specs.Steps.{changes}
-use Rattle.tape.specs.Tapes.{operandBytes, isCommand, commandSize, numberAt, sizeOf, commandOf, readFault, restOf}
+use Rattle.tape.specs.Tapes.{operandBytes, isCommand, commandSize, numberAt, sizeOf, commandOf, readRefusal, restOf}
 use Rattle.tape.specs.Tapes.{contentsOf, after, bytesOf, tapeBytes}
 use Rattle.tape.proofs.Contents.{readingLaw}
 
@@ -23,7 +23,7 @@ wide x = omega arith
 -- a tape that starts with the command c, and then goes on with rest
 record Starts (bs : List ℕ) (c : Command) (rest : List ℕ) : Type 0 where
   some : 0 < length bs
-  whole : readFault bs ≡ 0
+  whole : readRefusal bs ≡ 0
   command : commandOf bs ≡ changes c
   behind : restOf bs ≡ rest
 
@@ -35,7 +35,7 @@ five : (n : ℕ) → leb 5 (suc (suc (suc (suc (suc n))))) ≡ true
 five n = le-leb 5 (suc (suc (suc (suc (suc n))))) (omega arith)
 
 starts : (c : Command) (rest : List ℕ) → Starts (bytesOf c ++ rest) c rest
-unfolding readFault commandOf isCommand sizeOf commandSize operandBytes numberAt orElse unless
+unfolding readRefusal commandOf isCommand sizeOf commandSize operandBytes numberAt orElse unless
 starts (puts x) rest =
     record { some = omega arith; whole = rw (three (length rest)); command = rw wide; behind = refl }
 starts (takesOut x) rest =

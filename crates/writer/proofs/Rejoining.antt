@@ -15,8 +15,8 @@ use Rattle.hypermap.proofs.Permutations.Reaching.{onward}
 use Rattle.hypermap.proofs.Hypermaps.Totals.{up, fit}
 use Rattle.hypermap.proofs.Laws.Orbits.{orbitLaw}
 use Rattle.hypermap.proofs.Laws.Counts.{countLaw}
-use Rattle.table.specs.Layout.{Table, capacity, wordAt, nextWord, isPresent, hypermapOf, isSound}
-use Rattle.table.proofs.Soundness.{memPresent, soundHypermap}
+use Rattle.table.specs.Layout.{Table, capacity, wordAt, nextWord, isPresent, hypermapOf, holdsHypermap}
+use Rattle.table.proofs.Holding.{memPresent, tableHypermap}
 use Rattle.tape.specs.Steps.{changes}
 use Rattle.writer.specs.Canonical.{orbitJoins, joinsOver, joinsOf}
 use Rattle.tape.specs.Laws.{stepsOn, AllAccepted}
@@ -26,7 +26,7 @@ use Rattle.writer.proofs.JoinSteps.{stepsBoth, acceptedBoth, Turned, jo
 -- v has the darts of w, and in dimension k each is alone
 pub record Unjoined (w v : Table) (k : Dimension) : Type 0 where
   pub size : length v ≡ length w
-  pub sound : isSound v ≡ true
+  pub hypermap : holdsHypermap v ≡ true
   pub darts : hypermapOf v .darts ≡ hypermapOf w .darts
   pub alone : (x : ℕ) → isPresent w x ≡ true → wordAt v x (nextWord k) ≡ x
 
@@ -55,9 +55,9 @@ module _ (w : Table) (k : Dimension) where
   turnedElse : (x z : ℕ) → Apart x z → turned x z ≡ z
   turnedElse x z n = let q = notAmong z x _ n in turnElse x _ z (q .0) (q .1)
 
-  module _ (s : isSound w ≡ true) where
+  module _ (s : holdsHypermap w ≡ true) where
     alike : Equivalence (hypermapOf w .darts) (sameOrbit (hypermapOf w) (of k))
-    alike = orbitLaw (hypermapOf w) (soundHypermap w s) (of k) .1
+    alike = orbitLaw (hypermapOf w) (tableHypermap w s) (of k) .1
 
     leastDart : (x : ℕ) → Mem x least → Mem x (hypermapOf w .darts)
     leastDart x l = memKept isLeast (hypermapOf w .darts) x l .0
@@ -65,12 +65,12 @@ module _ (w : Table) (k : Dimension) where
     orbitAt :
         (x : ℕ) → Mem x least →
         IsOrbit (hypermapOf w .darts) (λ z. wordAt w z (nextWord k)) x (orbitOf (hypermapOf w) (of k) x)
-    orbitAt x l = orbitLaw (hypermapOf w) (soundHypermap w s) (of k) .0 x (leastDart x l)
+    orbitAt x l = orbitLaw (hypermapOf w) (tableHypermap w s) (of k) .0 x (leastDart x l)
 
     turnedNext : (x z : ℕ) → Mem x least → Together x z → turned x z ≡ wordAt w z (nextWord k)
     turnedNext x z l t =
         turnOrbit (λ z. wordAt w z (nextWord k)) x (hypermapOf w .darts) (capacity w)
-        (fit (hypermapOf w) (soundHypermap w s)) (orbitAt x l) z t
+        (fit (hypermapOf w) (tableHypermap w s)) (orbitAt x l) z t
 
     nextTogether : (x z : ℕ) → Mem x least → Together x z → Together x (wordAt w z (nextWord k))
     nextTogether x z l t = let i = orbitAt x l .members in i _ .1 (onward _ x z (i z .0 t))
@@ -79,7 +79,7 @@ module _ (w : Table) (k : Dimension) where
     leastOn : (z : ℕ) → isPresent w z ≡ true → (x : ℕ) × Mem x least × Together x z
     leastOn z p =
         let d = memPresent w z ∙ p in
-        let c = countLaw (hypermapOf w) (soundHypermap w s) z d .0 (of k) in (
+        let c = countLaw (hypermapOf w) (tableHypermap w s) z d .0 (of k) in (
           c .least,
           keepMem isLeast (hypermapOf w .darts) (c .least) (alike .within z _ d (c .member)) (c .counted),
           alike .symmetric z _ d (c .member),
@@ -89,7 +89,7 @@ module _ (w : Table) (k : Dimension) where
     oneLeast : (x y z : ℕ) → Mem x least → Mem y least → Together x z → Together y z → x ≡ y
     oneLeast x y z i j t u =
         let d = leastDart x i in
-        let c = countLaw (hypermapOf w) (soundHypermap w s) x d .0 (of k) in
+        let c = countLaw (hypermapOf w) (tableHypermap w s) x d .0 (of k) in
         let r = alike .transitive x z y d t (alike .symmetric y z (leastDart y j) u) in
         c .unique x (alike .reflexive x d) (memKept isLeast (hypermapOf w .darts) x i .1) ∙
         sym (c .unique y r (memKept isLeast (hypermapOf w .darts) y j .1))
@@ -102,7 +102,7 @@ record Rebuilt (w v u : Table) (k : Dimension) (xs : List ℕ) (g : ℕ → ℕ)
   reached : (x z : ℕ) → Mem x xs → Together w k x z → after z ≡ wordAt w z (nextWord k)
   kept : (z : ℕ) → ((x : ℕ) → Mem x xs → Apart w k x (g z)) → after z ≡ g z
 
-module _ (w v : Table) (k : Dimension) (s : isSound w ≡ true) where
+module _ (w v : Table) (k : Dimension) (s : holdsHypermap w ≡ true) where
   -- the first orbit, and then the others
   module _
       (x : ℕ) (xs : List ℕ) (u : Table) (g : ℕ → ℕ) (h : Turned w v u k g)
@@ -166,23 +166,23 @@ module _ (w v : Table) (k : Dimension) (s : isSound w ≡ true) where
       (stillAlone x xs u g h l d alone))
 
 pub rejoin :
-    (w v : Table) (k : Dimension) → isSound w ≡ true → Unjoined w v k →
+    (w v : Table) (k : Dimension) → holdsHypermap w ≡ true → Unjoined w v k →
     AllAccepted v (map changes (joinsOf (hypermapOf w) k)) ×
     Rejoined w v (stepsOn v (map changes (joinsOf (hypermapOf w) k))) k
 rejoin w v k s p =
     let start : Turned w v v k (λ x. x) = record {
       size = p .size;
-      sound = p .sound;
+      hypermap = p .hypermap;
       darts = p .darts;
       next = p .alone;
       other = λ j n x q. refl;
     } in
-    let once = risingDistinct (least w k) (risingKeep (isLeast w k) _ (up (hypermapOf w) (soundHypermap w s))) in
+    let once = risingDistinct (least w k) (risingKeep (isLeast w k) _ (up (hypermapOf w) (tableHypermap w s))) in
     let r = rebuilt w v k s (least w k) v (λ x. x) start (λ x m. m) once (λ x z m t. refl) in (
       r .accepted,
       record {
         size = r .turning .size;
-        sound = r .turning .sound;
+        hypermap = r .turning .hypermap;
         darts = r .turning .darts;
         next = λ x q. let c = leastOn w k s x q in r .turning .next x q ∙ r .reached (c .0) x (c .1) (c .2);
         other = r .turning .other;

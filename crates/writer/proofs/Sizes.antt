@@ -18,9 +18,9 @@ use Rattle.hypermap.proofs.Basics.Sums.{sumExt, keptOne, sumOfParts}
 use Rattle.hypermap.proofs.Hypermaps.Totals.{up}
 use Rattle.hypermap.proofs.Laws.Orbits.{orbitLaw}
 use Rattle.hypermap.proofs.Laws.Counts.{countLaw}
-use Rattle.table.specs.Layout.{Table, capacity, isSound, hypermapOf}
+use Rattle.table.specs.Layout.{Table, capacity, holdsHypermap, hypermapOf}
 use Rattle.table.specs.Commands.{Command, puts, joins}
-use Rattle.table.proofs.Soundness.{soundHypermap, dartsFew}
+use Rattle.table.proofs.Holding.{tableHypermap, dartsFew}
 use Rattle.tape.specs.Tapes.{bytesOf, tapeBytes}
 use Rattle.writer.specs.Canonical.{orbitJoins, joinsOver, joinsOf, putsOf, tapeOf}
 use Rattle.writer.specs.Laws.{SizeLaw}
@@ -104,7 +104,7 @@ module _ (m : Hypermap) (wf : isHypermap m ≡ true) where
 
 pub sizeLaw : SizeLaw
 unfolding tapeOf
-sizeLaw w s = wholeSize (hypermapOf w) (soundHypermap w s)
+sizeLaw w s = wholeSize (hypermapOf w) (tableHypermap w s)
 
 -- the tape in three parts
 pub tapeParts :
@@ -121,11 +121,11 @@ tapeParts w =
 pub orbitsFew : (m : Hypermap) (c : Kind) → orbits m c ≤ length (m .darts)
 orbitsFew m c = keepShorter (isLeastIn (orbitOf m c)) (m .darts)
 
-pub tapeFits : (w : Table) → isSound w ≡ true → capacity w ≤ 4096 → length (tapeOf w) ≤ 53238
+pub tapeFits : (w : Table) → holdsHypermap w ≡ true → capacity w ≤ 4096 → length (tapeOf w) ≤ 53238
 tapeFits w s room =
     let d = dartsFew w in
-    let e = orbitsExist (hypermapOf w) (soundHypermap w s) (of edge) in
-    let v = orbitsExist (hypermapOf w) (soundHypermap w s) (of vertex) in
+    let e = orbitsExist (hypermapOf w) (tableHypermap w s) (of edge) in
+    let v = orbitsExist (hypermapOf w) (tableHypermap w s) (of vertex) in
     let l = sizeLaw w s in
     byCases (leb 1 (length (hypermapOf w .darts)))
     (λ t. let h = leb-true 1 (length (hypermapOf w .darts)) t in omega (arith, e h, v h))

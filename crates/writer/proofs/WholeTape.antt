@@ -10,8 +10,8 @@ use Rattle.hypermap.specs.Hypermap.{edge, vertex, of}
 use Rattle.hypermap.specs.Hypermap.{edges as edgesIn, vertices as verticesIn}
 use Rattle.table.specs.Refusals.{shortRoom}
 use Rattle.table.specs.Layout.{Table, hypermapOf}
-use Rattle.table.proofs.Soundness.{dartsFew}
-use Rattle.parts.specs.Inner.{Counted}
+use Rattle.table.proofs.Holding.{dartsFew}
+use Rattle.parts.specs.Inner.{WithinCapacity}
 use Rattle.tape.specs.Tapes.{tapeBytes}
 use Rattle.writer.specs.Canonical.{putsOf, joinsOf, tapeOf}
 use Rattle.writer.specs.Inner.{HasRoom, Lays, writtenOf, writtenLeaves}
@@ -21,7 +21,7 @@ use Rattle.writer.proofs.Sizes.{sizeLaw, tapeParts, orbitsFew}
 -- THE COUNTS
 module _
     (w : Table)
-    (k : Counted w)
+    (k : WithinCapacity w)
     {d e v : ℕ}
     (darts : d ≡ length (hypermapOf w .darts))
     (edges : e ≡ edgesIn (hypermapOf w))
@@ -32,7 +32,7 @@ module _
         omega (arith, dartsFew w, k .room, orbitsFew (hypermapOf w) (of edge), orbitsFew (hypermapOf w) (of vertex))
 
     pub sizeByCounts : {size : ℕ} → size + 5 * (e + v) ≡ 13 * d → size ≡ length (tapeOf w)
-    sizeByCounts h = omega (arith, sizeLaw w (k .sound))
+    sizeByCounts h = omega (arith, sizeLaw w (k .hypermap))
 
 -- THE BUFFER
 module _ (w : Table) (o : List ℕ) {size : ℕ} (e : size ≡ length (tapeOf w)) where

@@ -9,9 +9,9 @@ use Rattle.hypermap.specs.Hypermap.{of}
 use Rattle.hypermap.specs.Hypermap as theory
 use Rattle.table.specs.Refusals.{shortRoom}
 use Rattle.table.specs.Layout.{Table, capacity, hypermapOf}
-use Rattle.table.specs.Inner.{SoundAt}
+use Rattle.table.specs.Inner.{HypermapAt}
 use Rattle.parts.specs.Marks.{orbitMarks}
-use Rattle.parts.specs.Inner.{Counted}
+use Rattle.parts.specs.Inner.{WithinCapacity}
 use Rattle.tape.specs.Tapes.{tapeBytes}
 use Rattle.writer.specs.Canonical.{orbitJoins, joinsOf}
 use Rattle.writer.specs.Screens.{screenRoom}
@@ -31,18 +31,18 @@ pub record Lays (at : ℕ) (bytes before after : List ℕ) (end : ℕ) : Type 0 
   pub place : end ≡ at + length bytes
 
 -- the joins of one orbit, and of all orbits by the marks of each dart's least
-pub record OrbitRoom (w : Table) (k : theory.Dimension) (x at : ℕ) (out : List ℕ) : Type 0 where
-  pub dart : SoundAt w x
+pub record OrbitJoinsRoom (w : Table) (k : theory.Dimension) (x at : ℕ) (out : List ℕ) : Type 0 where
+  pub dart : HypermapAt w x
   pub room : HasRoom at (tapeBytes (orbitJoins (hypermapOf w) k x)) out
 
 pub record JoinsRoom (w : Table) (k : theory.Dimension) (marks : List ℕ) (at : ℕ) (out : List ℕ) : Type 0 where
-  pub table : Counted w
+  pub table : WithinCapacity w
   pub marked : marks ≡ orbitMarks w (of k)
   pub room : HasRoom at (tapeBytes (joinsOf (hypermapOf w) k)) out
 
 -- marks for both dimensions
 pub record WriterMarks (w : Table) (edges vertices : List ℕ) : Type 0 where
-  pub table : Counted w
+  pub table : WithinCapacity w
   pub edgesSize : length edges ≡ capacity w
   pub verticesSize : length vertices ≡ capacity w
 
@@ -61,5 +61,5 @@ pub record NumbersRoom (numbers out : List ℕ) : Type 0 where
   pub room : 4 * length numbers ≤ length out
 
 pub record ScreenRoom (w : Table) (out : List ℕ) : Type 0 where
-  pub table : Counted w
+  pub table : WithinCapacity w
   pub room : screenRoom ≤ length out

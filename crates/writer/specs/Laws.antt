@@ -4,14 +4,14 @@ use mathlib.Core.Bool.{true}
 use Prim.Native.Nat.{_+_, _*_}
 use lib.ListN.{length, replicate}
 use Rattle.hypermap.specs.Hypermap.{edges, vertices}
-use Rattle.table.specs.Layout.{Table, wordsPerDart, capacity, isSound, hypermapOf}
+use Rattle.table.specs.Layout.{Table, wordsPerDart, capacity, holdsHypermap, hypermapOf}
 use Rattle.tape.specs.Runs.{Outcome, runOf}
 use Rattle.writer.specs.Canonical.{commandsOf, tapeOf}
 
 -- the bytes of a canonical tape; with at most 4,096 darts there are at most 53,238 of them
 abbrev pub SizeLaw : Type 0
 SizeLaw =
-    (w : Table) → isSound w ≡ true →
+    (w : Table) → holdsHypermap w ≡ true →
     length (tapeOf w) + 5 * (edges (hypermapOf w) + vertices (hypermapOf w)) ≡ 13 * length (hypermapOf w .darts)
 
 -- a canonical tape, played on an empty table of the same size, is accepted whole and builds the table
@@ -22,11 +22,11 @@ pub record IsBuilt (w : Table) (o : Outcome) : Type 0 where
 
 abbrev pub BuildLaw : Type 0
 BuildLaw =
-    (w : Table) → isSound w ≡ true → length w ≡ wordsPerDart * capacity w →
+    (w : Table) → holdsHypermap w ≡ true → length w ≡ wordsPerDart * capacity w →
     IsBuilt w (runOf (replicate (length w) 0) (tapeOf w))
 
 -- unequal sound tables of one size never share a tape
 abbrev pub OnlyTapeLaw : Type 0
 OnlyTapeLaw =
-    (v w : Table) → isSound v ≡ true → isSound w ≡ true → length v ≡ wordsPerDart * capacity v →
+    (v w : Table) → holdsHypermap v ≡ true → holdsHypermap w ≡ true → length v ≡ wordsPerDart * capacity v →
     length v ≡ length w → tapeOf v ≡ tapeOf w → v ≡ w

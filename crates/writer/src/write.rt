@@ -5,17 +5,17 @@ ghost use Prim.Native.Nat.{_+_, _*_, _-_, _≤_};
 ghost use Rattle.table.specs.Layout.{hypermapOf};
 ghost use Rattle.table.specs.Commands.{puts, joins};
 ghost use Rattle.table.specs.Inner.{dimensionOf};
-ghost use Rattle.parts.specs.Inner.{Counted};
+ghost use Rattle.parts.specs.Inner.{WithinCapacity};
 ghost use Rattle.tape.specs.Tapes.{bytesOf, numberBytes, tapeBytes, joinByte};
 ghost use Rattle.writer.specs.Canonical.{orbitJoins, joinsOf, putsOf, tapeOf};
-ghost use Rattle.writer.specs.Inner.{HasRoom, Lays, OrbitRoom, JoinsRoom, WriterMarks, writtenOf, writtenLeaves};
+ghost use Rattle.writer.specs.Inner.{HasRoom, Lays, OrbitJoinsRoom, JoinsRoom, WriterMarks, writtenOf, writtenLeaves};
 use crate::Written;
 use parts::count;
 use parts::marks::mark_of;
 use parts::marks::mark_orbits;
 use table::Dimension;
 use table::Orbit;
-use table::refusal;
+use table::refusals;
 use table::walk;
 use table::words;
 use tape::operands;
@@ -61,7 +61,7 @@ fn write_join(out: &mut [u8], at: usize, d: Dimension, a: u16, b: u16) -> usize
 
 // Every dart is put.
 fn write_puts(table: &[u16], out: &mut [u8]) -> usize
-    requires { ⌜ Counted (now table) × HasRoom 0 (tapeBytes (putsOf (hypermapOf (now table)))) (now out) ⌝ }
+    requires { ⌜ WithinCapacity (now table) × HasRoom 0 (tapeBytes (putsOf (hypermapOf (now table)))) (now out) ⌝ }
     ensures { λ r. ⌜ Lays 0 (tapeBytes (putsOf (hypermapOf (now (table .entry)))))
         (now (out .entry)) (now (out .exit)) r ⌝ }
 {
@@ -79,7 +79,7 @@ fn write_puts(table: &[u16], out: &mut [u8]) -> usize
 
 // x is joined to each further dart of its orbit.
 fn write_orbit_joins(table: &[u16], d: Dimension, x: u16, out: &mut [u8], from: usize) -> usize
-    requires { ⌜ OrbitRoom (now table) (dimensionOf d) x from (now out) ⌝ }
+    requires { ⌜ OrbitJoinsRoom (now table) (dimensionOf d) x from (now out) ⌝ }
     ensures { λ r. ⌜ Lays from (tapeBytes (orbitJoins (hypermapOf (now (table .entry))) (dimensionOf d) x))
         (now (out .entry)) (now (out .exit)) r ⌝ }
 {
@@ -140,7 +140,7 @@ fn write_marked(
     let size = tape_size(darts, edges, vertices);
     if out.len() < size as usize {
         return Written {
-            number: refusal::SHORT_ROOM,
+            number: refusals::SHORT_ROOM,
             count: 0,
         };
     }
@@ -154,7 +154,7 @@ fn write_marked(
 }
 
 pub fn write_tape(table: &[u16], out: &mut [u8]) -> Written
-    requires { ⌜ Counted (now table) ⌝ }
+    requires { ⌜ WithinCapacity (now table) ⌝ }
     ensures { λ r. ⌜ r ≡ writtenOf (tapeOf (now (table .entry))) (now (out .entry)) ⌝ }
     ensures out { λ r. ⌜ now (out .exit) ≡ writtenLeaves (tapeOf (now (table .entry))) (now (out .entry)) ⌝ }
 {

@@ -10,14 +10,14 @@ use Rattle.kernel.proofs.component_marks.Tie as tie
 returns : tie.Need-returns
 returns c =
     let t = c .before in
-    listFirst _ _ _ _ (t .before .table-fault .ensures) _ (c .refused .ensures) (t .if1 .taken)
+    listFirst _ _ _ _ (t .before .table-refusal .ensures) _ (c .refused .ensures) (t .if1 .taken)
 
 returns-2 : tie.Need-returns-2
 returns-2 c =
     let k = c .before .before in
     let t = k .before in
     let f = t .before in
-    let e = f .table-fault .ensures in
+    let e = f .table-refusal .ensures in
     let n = marksMany (f .before .before .before .args .table .now) _ (k .capacity-of .ensures) in
     listShort _ _ _ _ e _ (c .refused2 .ensures) (t .if1 .left) (omega (arith, n, c .before .if2 .taken))
 
@@ -28,9 +28,9 @@ mark-components-requires : tie.Need-mark-components-requires
 mark-components-requires c κs =
     let k = c .before .before in
     let t = k .before in
-    let p = tablePassed _ (sym (t .before .table-fault .ensures) ∙ t .if1 .left) in
+    let p = tablePassed _ (sym (t .before .table-refusal .ensures) ∙ t .if1 .left) in
     record {
-      sound = p .sound;
+      hypermap = p .hypermap;
       room = p .room;
       size = length-take-le _ _ (omega (arith, c .before .if2 .left)) ∙ k .capacity-of .ensures;
     }
@@ -39,7 +39,7 @@ cast-t7 : tie.Need-cast-t7
 cast-t7 c =
     let k = c .before .before .before .before .before in
     let t = k .before in
-    let p = tablePassed _ (sym (t .before .table-fault .ensures) ∙ t .if1 .left) in
+    let p = tablePassed _ (sym (t .before .table-refusal .ensures) ∙ t .if1 .left) in
     record { fits = omega (arith, p .room, k .capacity-of .ensures) }
 
 returns-3 : tie.Need-returns-3
@@ -48,7 +48,7 @@ returns-3 c =
     let s = m .before .before in
     let k = s .before in
     let t = k .before in
-    let e = t .before .table-fault .ensures in
+    let e = t .before .table-refusal .ensures in
     let n = marksMany _ _ (k .capacity-of .ensures) in
     listWritten _ _ _ _ e _ _ (t .if1 .left) (omega (arith, n, s .if2 .left)) n
     (rw (m .mark-components .ensures .1, ← n) refl)

@@ -1,6 +1,6 @@
 use borrow.Author.Needs.{needs}
 use mathlib.Core.Path.{sym, _∙_}
-use Rattle.kernel.proofs.Answering.{refusedReport, givenReport}
+use Rattle.kernel.proofs.Answering.{reportStopped, givenReport}
 use Rattle.kernel.proofs.Judging.{dartReady}
 use Rattle.kernel.proofs.component_report.Statement.{statement}
 use Rattle.kernel.proofs.component_report.Tie as tie
@@ -8,18 +8,18 @@ use Rattle.kernel.proofs.component_report.Tie as tie
 returns : tie.Need-returns
 returns c =
     let t = c .before in
-    c .refused-totals .ensures ∙ refusedReport _ _ _ (t .before .dart-question-fault .ensures) (t .if1 .taken)
+    c .refused-totals .ensures ∙ reportStopped _ _ _ (t .before .dart-question-refusal .ensures) (t .if1 .taken)
 
 component-counts-requires : tie.Need-component-counts-requires
 component-counts-requires c κs =
-    let r = dartReady _ _ (sym (c .before .dart-question-fault .ensures) ∙ c .if1 .left) in
-    record { at = record { sound = r .sound; here = r .here }; room = r .room }
+    let r = dartReady _ _ (sym (c .before .dart-question-refusal .ensures) ∙ c .if1 .left) in
+    record { at = record { hypermap = r .hypermap; here = r .here }; room = r .room }
 
 returns-2 : tie.Need-returns-2
 returns-2 c =
     let t = c .before .before in
     c .totals .ensures ∙
-    givenReport _ _ _ _ (t .before .dart-question-fault .ensures) (t .if1 .left) (c .before .component-counts .ensures)
+    givenReport _ _ _ _ (t .before .dart-question-refusal .ensures) (t .if1 .left) (c .before .component-counts .ensures)
 
 pub component-report-spec : {M : Type 1} → statement M
 component-report-spec =

@@ -3,7 +3,7 @@ use mathlib.Core.Path.{_≡_, sym, _∙_}
 use Prim.Native.Nat.{_+_, _-_}
 use native.Mathlib.Omega.{arith}
 use borrow.Author.Tests.{eq-eqb, ne-eqb}
-use Rattle.table.proofs.Soundness.{low, high}
+use Rattle.table.proofs.Holding.{low, high}
 use Rattle.kernel.specs.Calls.{lookOf}
 use Rattle.kernel.proofs.Judging.{dartsReady}
 use Rattle.kernel.proofs.look.Statement.{statement}
@@ -11,13 +11,13 @@ use Rattle.kernel.proofs.look.Tie as tie
 
 place-of-requires : tie.Need-place-of-requires
 place-of-requires c κs =
-    let r = dartsReady _ _ _ (sym (c .before .darts-question-fault .ensures) ∙ c .if1 .taken) in
+    let r = dartsReady _ _ _ (sym (c .before .darts-question-refusal .ensures) ∙ c .if1 .taken) in
     (low _ _ (r .both .first), omega arith)
 
 part-result-end : tie.Need-part-result-end
 part-result-end c =
     let t = c .before in
-    let r = dartsReady _ _ _ (sym (t .before .darts-question-fault .ensures) ∙ t .if1 .taken) in
+    let r = dartsReady _ _ _ (sym (t .before .darts-question-refusal .ensures) ∙ t .if1 .taken) in
     let l = low _ _ (r .both .first) in
     let h = high _ _ (r .both .first) in
     omega arith
@@ -28,12 +28,12 @@ returns c =
     let t = c .before .before in
     let k = c .before .place-of .result in
     let e : k + 4 - k ≡ 4 = omega arith in
-    rw (eq-eqb _ _ (sym (t .before .darts-question-fault .ensures) ∙ t .if1 .taken), e) (cc)
+    rw (eq-eqb _ _ (sym (t .before .darts-question-refusal .ensures) ∙ t .if1 .taken), e) (cc)
 
 returns-2 : tie.Need-returns-2
 unfolding lookOf
 returns-2 c =
-    let t = c .before in rw (ne-eqb _ _ (λ e. t .if1 .left (t .before .darts-question-fault .ensures ∙ e)))
+    let t = c .before in rw (ne-eqb _ _ (λ e. t .if1 .left (t .before .darts-question-refusal .ensures ∙ e)))
 
 pub look-spec : {M : Type 1} → statement M
 look-spec =

@@ -12,20 +12,20 @@ returns c = playLong _ _ (c .if1 .taken)
 returns-2 : tie.Need-returns-2
 returns-2 c =
     let f = c .before in
-    playBent _ _ (omega (arith, f .before .before .if1 .left)) _ (f .table-fault .ensures) (c .if2 .taken)
+    playBent _ _ (omega (arith, f .before .before .if1 .left)) _ (f .table-refusal .ensures) (c .if2 .taken)
 
 play-requires : tie.Need-play-requires
 play-requires c κs =
     let e = c .before in
     let f = e .before in
-    let t = tablePassed _ (sym (f .table-fault .ensures) ∙ e .if2 .left) in
-    record { table = record { sound = t .sound; room = t .room }; short = omega (arith, f .before .before .if1 .left) }
+    let t = tablePassed _ (sym (f .table-refusal .ensures) ∙ e .if2 .left) in
+    record { table = record { hypermap = t .hypermap; room = t .room }; short = omega (arith, f .before .before .if1 .left) }
 
 returns-3 : tie.Need-returns-3
 returns-3 c =
     let e = c .before .before .before .before in
     let f = e .before in
-    playRun _ _ (omega (arith, f .before .before .if1 .left)) _ (f .table-fault .ensures) (e .if2 .left) _ _
+    playRun _ _ (omega (arith, f .before .before .if1 .left)) _ (f .table-refusal .ensures) (e .if2 .left) _ _
     (c .before .before .play .ensures)
 
 pub play-spec : {M : Type 1} → statement M

@@ -1,6 +1,6 @@
 use borrow.Author.Needs.{needs}
 use mathlib.Core.Path.{sym, _∙_}
-use Rattle.kernel.proofs.Answering.{refusedReport, givenReport}
+use Rattle.kernel.proofs.Answering.{reportStopped, givenReport}
 use Rattle.kernel.proofs.Judging.{tablePassed}
 use Rattle.kernel.proofs.report.Statement.{statement}
 use Rattle.kernel.proofs.report.Tie as tie
@@ -8,18 +8,18 @@ use Rattle.kernel.proofs.report.Tie as tie
 returns : tie.Need-returns
 returns c =
     let t = c .before in
-    c .refused-totals .ensures ∙ refusedReport _ _ _ (t .before .table-fault .ensures) (t .if1 .taken)
+    c .refused-totals .ensures ∙ reportStopped _ _ _ (t .before .table-refusal .ensures) (t .if1 .taken)
 
 counts-requires : tie.Need-counts-requires
 counts-requires c κs =
-    let t = tablePassed _ (sym (c .before .table-fault .ensures) ∙ c .if1 .left) in
-    record { sound = t .sound; room = t .room }
+    let t = tablePassed _ (sym (c .before .table-refusal .ensures) ∙ c .if1 .left) in
+    record { hypermap = t .hypermap; room = t .room }
 
 returns-2 : tie.Need-returns-2
 returns-2 c =
     let t = c .before .before in
     c .totals .ensures ∙
-    givenReport _ _ _ _ (t .before .table-fault .ensures) (t .if1 .left) (c .before .counts .ensures)
+    givenReport _ _ _ _ (t .before .table-refusal .ensures) (t .if1 .left) (c .before .counts .ensures)
 
 pub report-spec : {M : Type 1} → statement M
 report-spec =

@@ -9,18 +9,18 @@ use Rattle.kernel.proofs.round.Tie as tie
 returns : tie.Need-returns
 returns c =
     let t = c .before in
-    listFirst _ _ _ _ (t .before .dart-question-fault .ensures) _ (c .refused .ensures) (t .if1 .taken)
+    listFirst _ _ _ _ (t .before .dart-question-refusal .ensures) _ (c .refused .ensures) (t .if1 .taken)
 
 orbit-length-requires : tie.Need-orbit-length-requires
 orbit-length-requires c κs =
-    let r = dartReady _ _ (sym (c .before .dart-question-fault .ensures) ∙ c .if1 .left) in
-    record { sound = r .sound; here = r .here }
+    let r = dartReady _ _ (sym (c .before .dart-question-refusal .ensures) ∙ c .if1 .left) in
+    record { hypermap = r .hypermap; here = r .here }
 
 returns-2 : tie.Need-returns-2
 returns-2 c =
     let l = c .before .before in
     let t = l .before in
-    let e = t .before .dart-question-fault .ensures in
+    let e = t .before .dart-question-refusal .ensures in
     listShort _ _ _ _ e _ (c .refused2 .ensures) (t .if1 .left)
     (omega (arith, l .orbit-length .ensures, c .before .if2 .taken))
 
@@ -28,9 +28,9 @@ write-orbit-requires : tie.Need-write-orbit-requires
 write-orbit-requires c κs =
     let l = c .before .before in
     let t = l .before in
-    let r = dartReady _ _ (sym (t .before .dart-question-fault .ensures) ∙ t .if1 .left) in
+    let r = dartReady _ _ (sym (t .before .dart-question-refusal .ensures) ∙ t .if1 .left) in
     record {
-      dart = record { sound = r .sound; here = r .here };
+      dart = record { hypermap = r .hypermap; here = r .here };
       room = omega (arith, l .orbit-length .ensures, c .before .if2 .left);
     }
 
@@ -39,7 +39,7 @@ returns-3 c =
     let s = c .before .before .before .before in
     let l = s .before in
     let t = l .before in
-    let e = t .before .dart-question-fault .ensures in
+    let e = t .before .dart-question-refusal .ensures in
     let k = l .orbit-length .ensures in
     let o = c .before .before .write-orbit .ensures in
     listWritten _ _ _ _ e _ _ (t .if1 .left) (omega (arith, k, s .if2 .left)) k o

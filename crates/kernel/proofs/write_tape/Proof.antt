@@ -9,19 +9,19 @@ use Rattle.kernel.proofs.write_tape.Tie as tie
 returns : tie.Need-returns
 returns c =
     let k = c .before in
-    listFirst _ _ _ _ (k .before .table-fault .ensures) _ (c .refused .ensures) (k .if1 .taken)
+    listFirst _ _ _ _ (k .before .table-refusal .ensures) _ (c .refused .ensures) (k .if1 .taken)
 
 write-tape-requires : tie.Need-write-tape-requires
 write-tape-requires c κs =
     let e = c .before in
-    let t = tablePassed _ (sym (e .before .table-fault .ensures) ∙ e .if1 .left) in
-    record { sound = t .sound; room = t .room }
+    let t = tablePassed _ (sym (e .before .table-refusal .ensures) ∙ e .if1 .left) in
+    record { hypermap = t .hypermap; room = t .room }
 
 returns-2 : tie.Need-returns-2
 returns-2 c =
     let k = c .before .before in
     let e = k .before .before in
-    tapeWritten _ _ _ (e .before .table-fault .ensures) (e .if1 .left) _ _ (k .write-tape .ensures)
+    tapeWritten _ _ _ (e .before .table-refusal .ensures) (e .if1 .left) _ _ (k .write-tape .ensures)
 
 pub write-tape-spec : {M : Type 1} → statement M
 write-tape-spec =

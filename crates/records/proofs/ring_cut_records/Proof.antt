@@ -41,7 +41,7 @@ use denote.Triple.Walked.{Stays, stay-dropped, gave-slice, walkOf, goes-dropped,
 use denote.Triple.Walked.{walked, walk-meets}
 use denote.Exit.{yes}
 use Rattle.records.specs.declared.DoubleLink.{DoubleLink}
-use Rattle.kernel.specs.Calls.{ringCallFault, ringCallLeaves}
+use Rattle.kernel.specs.Calls.{ringCallRefusal, ringCallLeaves}
 use Rattle.records.specs.Records.{fitted, BeginsWith}
 use Rattle.records.proofs.Locals.{here, local}
 use Rattle.records.proofs.Words.{fittedCalls}
@@ -139,7 +139,7 @@ module _ {M : Type 1} (𝓤 : URA M) (H : Heap 𝓤) (A : Atoms 𝓤) (W : Given
       join ! $ frame ! $ done !
 
   abbrev Answered : List ℕ → ℕ → Type 0
-  Answered ws r = r ≡ ringCallFault (x .now) (take (2 * fitted n) ws)
+  Answered ws r = r ≡ ringCallRefusal (x .now) (take (2 * fitted n) ws)
 
   abbrev Left : List ℕ → List ℕ → Type 0
   Left ws zs = zs ≡ ringCallLeaves (x .now) (take (2 * fitted n) ws)
@@ -153,7 +153,7 @@ module _ {M : Type 1} (𝓤 : URA M) (H : Heap 𝓤) (A : Atoms 𝓤) (W : Given
       (‵ (flft κ′ q′) ⊛ ‵ ftrue) ∷ []) ∵
       suffices ! _ (ends-at 𝓤 H A records.ended stayed (records.clauses 𝓤 H A mem run) W bound w r (zs, (tt, tt))
       (l, (tt, tt))) $
-      suffices ! _ (beside 𝓤 _ (both 𝓤 (f ∙ ap (ringCallFault (x .now)) e ∙ fittedCalls (x .now) (s .now) .0)
+      suffices ! _ (beside 𝓤 _ (both 𝓤 (f ∙ ap (ringCallRefusal (x .now)) e ∙ fittedCalls (x .now) (s .now) .0)
       (f′ ∙ ap (ringCallLeaves (x .now)) e ∙ fittedCalls (x .now) (s .now) .1))) $
       move ! (1 ∷ []) $ split ! $ move ! (0 ∷ 4 ∷ []) $ join ! $ frame ! $ nothing ! $ fjoin ! $ move ! (2 ∷ 0 ∷ []) $
       fjoin ! $ frame ! $ done !

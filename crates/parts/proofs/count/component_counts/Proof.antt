@@ -4,10 +4,10 @@ use borrow.Author.Needs.{needs}
 use Rattle.hypermap.specs.Hypermap.{faces, components, componentAt}
 use Rattle.hypermap.proofs.Laws.ComponentGenus.{isConnected}
 use Rattle.table.specs.Layout.{hypermapOf}
-use Rattle.table.proofs.Soundness.{memPresent, soundHypermap}
+use Rattle.table.proofs.Holding.{memPresent, tableHypermap}
 use Rattle.parts.specs.Counts.{lifts, countsOf}
 use Rattle.parts.specs.Inner.{MarkedSet, markedIn}
-use Rattle.parts.proofs.Flooding.{dryZeros}
+use Rattle.parts.proofs.Flooding.{unmarkedZeros}
 use Rattle.parts.proofs.MarkedSets.{componentSet, componentIs}
 use Rattle.parts.proofs.count.component_counts.Statement.{statement}
 use Rattle.parts.proofs.count.component_counts.Tie as tie
@@ -19,25 +19,25 @@ module _ (f : tie.After-flood) where
 
   set : MarkedSet (s .args .table .now) (f .flood .last .1 .1 .1 .0) 1
   set =
-      componentSet _ (s .pre .at .sound) (s .pre .room) 4096 (s .pre .room) _ (f .flood .kept .1 .1 .1 .0) _
+      componentSet _ (s .pre .at .hypermap) (s .pre .room) 4096 (s .pre .room) _ (f .flood .kept .1 .1 .1 .0) _
       (s .pre .at .here) (f .flood .ensures .1)
 
   is :
       markedIn (s .args .table .now) (f .flood .last .1 .1 .1 .0) 1 ≡
       componentAt (hypermapOf (s .args .table .now)) (s .args .x)
   is =
-      componentIs _ (s .pre .at .sound) (s .pre .room) 4096 (s .pre .room) _ (f .flood .kept .1 .1 .1 .0) _
+      componentIs _ (s .pre .at .hypermap) (s .pre .room) 4096 (s .pre .room) _ (f .flood .kept .1 .1 .1 .0) _
       (s .pre .at .here) (f .flood .ensures .1)
 
   one : components (componentAt (hypermapOf (s .args .table .now)) (s .args .x)) ≡ 1
   one =
-      isConnected (hypermapOf (s .args .table .now)) (soundHypermap _ (s .pre .at .sound)) (s .args .x)
+      isConnected (hypermapOf (s .args .table .now)) (tableHypermap _ (s .pre .at .hypermap)) (s .args .x)
       (memPresent _ _ ∙ s .pre .at .here) .one
 
 flood-requires : tie.Need-flood-requires
 flood-requires c κs =
     let p = c .before .before .before .before .pre in
-    dryZeros _ _ _ (p .at) (omega arith) 4096 (p .room) (p .room)
+    unmarkedZeros _ _ _ (p .at) (omega arith) 4096 (p .room) (p .room)
 
 marked-counts-requires : tie.Need-marked-counts-requires
 marked-counts-requires c κs =

@@ -9,7 +9,7 @@ use Rattle.parts.specs.Counts.{lifts}
 use Rattle.parts.specs.Inner.{floodedOf}
 use Rattle.parts.proofs.Marking.{passedMark, freshMarking, freshPart}
 use Rattle.parts.proofs.FloodingAll.{FloodingAll, allPass, allNone, allOther, allFresh, allFew, allCounts}
-use Rattle.parts.proofs.FloodingAll.{allPainted, allSkip}
+use Rattle.parts.proofs.FloodingAll.{allPartMarked, allSkip}
 use Rattle.parts.proofs.count.flood_all.Statement.{statement}
 use Rattle.parts.proofs.count.flood_all.Tie as tie
 
@@ -44,9 +44,9 @@ flood-requires c κs =
     record {
       low = omega arith;
       few = s .room;
-      marking = freshMarking _ _ q _ _ _ (l .loop .inv .0 .passed) (omega arith) e (s .sound);
+      marking = freshMarking _ _ q _ _ _ (l .loop .inv .0 .passed) (omega arith) e (s .hypermap);
       room = omega (arith, l .loop .inv .0 .passed .size, l .loop .inv .1);
-      dry = freshPart _ _ q _ _ _ (l .loop .inv .0 .passed) (omega arith) e;
+      unmarked = freshPart _ _ q _ _ _ (l .loop .inv .0 .passed) (omega arith) e;
     }
 
 -- one component more
@@ -80,7 +80,7 @@ component-lifts-requires c κs =
     let s = start (l g) .pre .0 in
     record {
       at = freshMarking _ _ (allPass _ s) _ _ _ (l g .loop .inv .0 .passed) (omega arith)
-          (sym (f g .is-fresh .ensures) ∙ g .before .before .before .if2 .taken) (s .sound) .at;
+          (sym (f g .is-fresh .ensures) ∙ g .before .before .before .if2 .taken) (s .hypermap) .at;
       room = s .room;
     }
 
@@ -142,7 +142,7 @@ returns c =
     let l = c .before .before in
     let p = start l .pre in
     let a = allCounts _ (p .0) _ _ _ _ _ (l .loop .inv .0) (omega arith) in
-    (cc (a .0, a .1, a .2), rw (p .1) (allPainted _ (p .0) _ _ _ _ _ (l .loop .inv .0) (omega arith)))
+    (cc (a .0, a .1, a .2), rw (p .1) (allPartMarked _ (p .0) _ _ _ _ _ (l .loop .inv .0) (omega arith)))
 
 pub flood-all-spec : {M : Type 1} → statement M
 flood-all-spec =

@@ -6,7 +6,7 @@ use lib.ListN.{length, replicate}
 use borrow.Author.Needs.{needs}
 use Rattle.hypermap.specs.Hypermap.{componentOf}
 use Rattle.table.specs.Layout.{hypermapOf}
-use Rattle.table.proofs.Soundness.{low}
+use Rattle.table.proofs.Holding.{low}
 use Rattle.parts.proofs.Marking.{Passed, passedMark, freshMarking, freshPart, passedOther}
 use Rattle.parts.proofs.LeastMarks.{leastSweep, leastPass, leastNone, leastOn, leastAll}
 use Rattle.parts.proofs.Flooding.{componentParts}
@@ -26,7 +26,7 @@ start l = l .before .before .before .before .before .before .before .before
 loop-holds : tie.Need-loop-holds Inv-loop μ-loop
 loop-holds c =
     let s = c .before .before .before .before .before .before .before in (
-      leastNone _ _ (componentParts _ (s .pre .sound)) _
+      leastNone _ _ (componentParts _ (s .pre .hypermap)) _
           (c .before .before .before .clear .ensures ∙ ap (λ n. replicate n 0) (s .pre .size)),
       refl,
     )
@@ -34,7 +34,7 @@ loop-holds c =
 is-fresh-requires : tie.Need-is-fresh-requires Inv-loop μ-loop
 is-fresh-requires c κs =
     let l = c .before .before .before in
-    passedMark _ _ (leastPass _ _ (componentParts _ (start l .pre .sound))) _ _ _ (l .loop .inv .0) (omega arith)
+    passedMark _ _ (leastPass _ _ (componentParts _ (start l .pre .hypermap))) _ _ _ (l .loop .inv .0) (omega arith)
 
 slice-aggregate-flood : tie.Need-slice-aggregate-flood Inv-loop μ-loop
 slice-aggregate-flood c = sym (c .before .before .before .before .before .before .before .loop .inv .1)
@@ -44,22 +44,22 @@ flood-requires c κs =
     let f = c .before .before .before in
     let l = f .before .before .before .before in
     let s = start l .pre in
-    let q = leastPass _ _ (componentParts _ (s .sound)) in
+    let q = leastPass _ _ (componentParts _ (s .hypermap)) in
     let e = sym (f .is-fresh .ensures) ∙ c .before .before .if2 .taken in
-    let m = freshMarking _ _ q _ _ _ (l .loop .inv .0) (omega arith) e (s .sound) in
+    let m = freshMarking _ _ q _ _ _ (l .loop .inv .0) (omega arith) e (s .hypermap) in
     record {
       low = low _ _ (m .at .here);
       few = s .room;
       marking = m;
       room = omega arith;
-      dry = freshPart _ _ q _ _ _ (l .loop .inv .0) (omega arith) e;
+      unmarked = freshPart _ _ q _ _ _ (l .loop .inv .0) (omega arith) e;
     }
 
 loop-again : tie.Need-loop-again Inv-loop μ-loop
 loop-again c =
     let l = c .before .before .before .before .before in
     let i = l .loop .inv in
-    let r = componentParts _ (start l .pre .sound) in
+    let r = componentParts _ (start l .pre .hypermap) in
     let q = leastPass _ _ r in
     let e = sym (c .before .is-fresh .ensures) in
     ⊎-elim
@@ -73,7 +73,7 @@ loop-again c =
 returns : tie.Need-returns Inv-loop μ-loop
 returns c =
     let l = c .before .before in
-    leastAll _ _ (componentParts _ (start l .pre .sound)) _ _ _ (l .loop .inv .0) (omega arith)
+    leastAll _ _ (componentParts _ (start l .pre .hypermap)) _ _ _ (l .loop .inv .0) (omega arith)
 
 pub mark-components-spec : {M : Type 1} → statement M
 mark-components-spec =

@@ -1,14 +1,14 @@
 use native.Mathlib.Omega.{arith}
 use borrow.Author.Needs.{needs}
-use Rattle.table.proofs.Soundness.{low, high}
-use Rattle.parts.proofs.Flooding.{dryZeros, floodedTest}
+use Rattle.table.proofs.Holding.{low, high}
+use Rattle.parts.proofs.Flooding.{unmarkedZeros, floodedTest}
 use Rattle.parts.proofs.flood.same_component.Statement.{statement}
 use Rattle.parts.proofs.flood.same_component.Tie as tie
 
 flood-requires : tie.Need-flood-requires
 flood-requires c κs =
     let p = c .before .before .before .pre in
-    dryZeros _ _ _ (record { sound = p .both .sound; here = p .both .first }) (omega arith) 4096 (p .room) (p .room)
+    unmarkedZeros _ _ _ (record { hypermap = p .both .hypermap; here = p .both .first }) (omega arith) 4096 (p .room) (p .room)
 
 mark-of-requires : tie.Need-mark-of-requires
 mark-of-requires c κs =
@@ -22,7 +22,7 @@ returns c =
     let f = c .before .before .before .before in
     let p = f .before .before .before .before .pre in
     rw (c .mark-of .ensures)
-    (floodedTest _ _ _ (record { sound = p .both .sound; here = p .both .first }) (omega arith) 4096 (p .room) (p .room)
+    (floodedTest _ _ _ (record { hypermap = p .both .hypermap; here = p .both .first }) (omega arith) 4096 (p .room) (p .room)
     _ _ (p .both .second) (f .flood .ensures .1))
 
 pub same-component-spec : {M : Type 1} → statement M

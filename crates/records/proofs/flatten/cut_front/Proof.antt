@@ -4,7 +4,7 @@ use native.Mathlib.Omega.{arith}
 use lib.ListN.{take}
 use lib.Seq.{length-take-le}
 use borrow.Author.Needs.{needs}
-use Rattle.kernel.specs.Calls.{ringCallFault, ringCallLeaves}
+use Rattle.kernel.specs.Calls.{ringCallRefusal, ringCallLeaves}
 use Rattle.records.proofs.Words.{fittedKept}
 use Rattle.records.proofs.flatten.cut_front.Statement.{statement}
 use Rattle.records.proofs.flatten.cut_front.Tie as tie
@@ -24,7 +24,7 @@ returns c =
     let atCut = c .before .before in
     let start = atCut .before .before .before .before .before in
     let asFitted = ap (λ (k : ℕ). take (2 * k) (start .args .t2)) (atCut .before .before .before .fit .ensures) in (
-      atCut .ring-cut .ensures .0 ∙ ap (ringCallFault (start .args .table .now)) asFitted,
+      atCut .ring-cut .ensures .0 ∙ ap (ringCallRefusal (start .args .table .now)) asFitted,
       atCut .ring-cut .ensures .1 ∙ ap (ringCallLeaves (start .args .table .now)) asFitted,
     )
 

@@ -1,7 +1,7 @@
 use native.Mathlib.Omega.{arith}
 use lib.ListN.{length}
 use Rattle.table.specs.Inner.{kindOf}
-use Rattle.table.proofs.Walking.{wayHome, soundOn, nearer}
+use Rattle.table.proofs.Walking.{wayHome, hypermapOn, nearer}
 use Rattle.table.proofs.Walking.{Walks, walksFirst, walksCounted, walksHome, walksOn}
 use Rattle.table.proofs.walk.orbit_length.Statement.{statement}
 use Rattle.table.proofs.walk.orbit_length.Tie as tie
@@ -13,7 +13,7 @@ abbrev μ-loop : tie.MeasureT-loop
 μ-loop table orbit x at₀ steps₀ at steps = length (wayHome table (kindOf orbit) x at)
 
 step-requires : tie.Need-step-requires Inv-loop μ-loop
-step-requires c κs = soundOn (c .before .before .pre) (c .loop .inv .on)
+step-requires c κs = hypermapOn (c .before .before .pre) (c .loop .inv .on)
 
 add-steps : tie.Need-add-steps Inv-loop μ-loop
 add-steps c =

@@ -2,7 +2,7 @@ use borrow.Author.Needs.{needs}
 use mathlib.Core.Path.{sym, _∙_}
 use native.Mathlib.Omega.{arith}
 use Rattle.tape.specs.Tapes.{operandBytes, commandSize, commandOf}
-use Rattle.tape.proofs.Decoding.{isKnown, plainSized, wholeFault, someByte, unknownReads}
+use Rattle.tape.proofs.Decoding.{isKnown, plainSized, wholeRefusal, someByte, unknownReads}
 use Rattle.tape.proofs.decode.read.Statement.{statement}
 use Rattle.tape.proofs.decode.read.Tie as tie
 
@@ -18,7 +18,7 @@ returns-7 c =
     let bs = b .before .before .args .tape .now in
     let s = plainSized bs 7 (c .command-size .result) e (omega arith) (omega arith) (c .command-size .ensures) in
     let some = someByte bs 7 e (omega arith) in
-    (wholeFault s (omega (arith, c .command-size .ensures)), rw (← e), s .size)
+    (wholeRefusal s (omega (arith, c .command-size .ensures)), rw (← e), s .size)
 
 returns-9 : tie.Need-returns-9
 returns-9 c =

@@ -2,7 +2,7 @@ use borrow.Author.Needs.{needs}
 use Prim.Native.Nat.{_+_, _*_}
 use native.Mathlib.Omega.{arith}
 use Rattle.tape.specs.Tapes.{commandOf}
-use Rattle.tape.proofs.Decoding.{Sized, isKnown, commandSmall, ringSized, tornReads, wholeFault}
+use Rattle.tape.proofs.Decoding.{Sized, isKnown, commandSmall, ringSized, tornReads, wholeRefusal}
 use Rattle.tape.proofs.decode.ring.Statement.{statement}
 use Rattle.tape.proofs.decode.ring.Tie as tie
 
@@ -22,7 +22,7 @@ unfolding commandOf
 returns-2 c =
     let w = c .before in
     let e = w .before .before .before .before .pre .0 in
-    (wholeFault (sized w) (c .if1 .left), rw e (cc), sized w .size)
+    (wholeRefusal (sized w) (c .if1 .left), rw e (cc), sized w .size)
 
 pub ring-spec : {M : Type 1} → statement M
 ring-spec =

@@ -1,8 +1,8 @@
 use borrow.Author.Needs.{needs}
 use mathlib.Core.Path.{_≡_, sym, _∙_}
 use native.Mathlib.Omega.{arith}
-use Rattle.tape.specs.Tapes.{commandOf, readFault}
-use Rattle.tape.proofs.Decoding.{Sized, twoDarts, isKnown, plainSized, tornReads, wholeFault, lastOfFour}
+use Rattle.tape.specs.Tapes.{commandOf, readRefusal}
+use Rattle.tape.proofs.Decoding.{Sized, twoDarts, isKnown, plainSized, tornReads, wholeRefusal, lastOfFour}
 use Rattle.tape.proofs.decode.two_darts.Statement.{statement}
 use Rattle.tape.proofs.decode.two_darts.Tie as tie
 
@@ -13,8 +13,8 @@ command-size-requires c κs =
 sized : (c : tie.After-command-size) → Sized (c .before .before .args .tape .now) (c .command-size .result)
 sized c = plainSized _ _ _ (c .before .before .pre .byte) (omega arith) (omega arith) (c .command-size .ensures)
 
-whole : (c : tie.Else1) → readFault (c .before .before .before .args .tape .now) ≡ 0
-whole c = wholeFault (sized (c .before)) (c .if1 .left)
+whole : (c : tie.Else1) → readRefusal (c .before .before .before .args .tape .now) ≡ 0
+whole c = wholeRefusal (sized (c .before)) (c .if1 .left)
 
 number-at-requires : tie.Need-number-at-requires
 number-at-requires c κs =

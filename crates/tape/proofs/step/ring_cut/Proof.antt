@@ -4,7 +4,7 @@ use Prim.Native.Nat.{_*_}
 use native.Mathlib.Omega.{arith}
 use lib.ListN.{replicate, length-append}
 use lib.Seq.{length-take-le}
-use Rattle.rings.specs.Rings.{ringFault, ringLeaves}
+use Rattle.rings.specs.Rings.{ringRefusal, ringLeaves}
 use Rattle.tape.specs.Tapes.{numbersFrom}
 use Rattle.tape.proofs.Decoding.{filledLength, filledPart}
 use Rattle.tape.proofs.step.ring_cut.Statement.{statement}
@@ -33,7 +33,7 @@ returns c =
     let s = w .before .before .before in
     let e = filledPart _ (slice-aggregate-read-numbers (r .before)) (r .read-numbers .ensures) _ ∙
     ap (λ k. numbersFrom (2 * k) 2 (s .args .tape .now)) (w .wide .ensures) in (
-      d .ring-cut .ensures .0 ∙ ap (ringFault (s .args .table .now)) e,
+      d .ring-cut .ensures .0 ∙ ap (ringRefusal (s .args .table .now)) e,
       d .ring-cut .ensures .1 ∙ ap (ringLeaves (s .args .table .now)) e,
     )
 

@@ -19,7 +19,7 @@ returns c =
     let z = toZ-ofZ {w = w32} {z = k .counts .result .characteristic}
     (record { sfits = m .before .struct-told .given .1 .1 .1 .1 .1 .0 .1 }) in
     answerLaid _ _ (k .counts .result) _ _ _ _ (k .counts .ensures) (m .complement-of .ensures ∙ ap twosComplement z)
-    (s .pre .room) (tapeFits _ (s .pre .table .sound) (s .pre .table .room)) (n .write-numbers .ensures)
+    (s .pre .room) (tapeFits _ (s .pre .table .hypermap) (s .pre .table .room)) (n .write-numbers .ensures)
     (t .write-tape .ensures .1)
 
 pub write-answer-spec : {M : Type 1} → statement M

@@ -50,7 +50,7 @@ write-orbit-joins-requires c κs =
     let t = firstTest _ (dimensionOf (s .args .d)) _ _ _ (l .loop .inv .low) (omega arith) (s .pre .marked)
     (m .mark-of .ensures) ∙ eq-eqb _ _ (i .if2 .taken) in
     record {
-      dart = record { sound = s .pre .table .sound; here = andLeft _ _ t };
+      dart = record { hypermap = s .pre .table .hypermap; here = andLeft _ _ t };
       room = passingRoom _ _ _ _ _ _ _ _ (l .loop .inv) (omega arith) t;
     }
 

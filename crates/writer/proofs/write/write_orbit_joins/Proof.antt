@@ -1,6 +1,6 @@
 use Rattle.table.specs.Inner.{dimensionOf}
 use Rattle.writer.proofs.Laying.{laysLength}
-use Rattle.writer.proofs.OrbitJoins.{Joining, toCome, joiningFirst, joiningSound, joiningRoom, joiningOn}
+use Rattle.writer.proofs.OrbitJoins.{Joining, toCome, joiningFirst, joiningAt, joiningRoom, joiningOn}
 use Rattle.writer.proofs.OrbitJoins.{joiningLess, joiningAll}
 use Rattle.writer.proofs.write.write_orbit_joins.Statement.{statement}
 use Rattle.writer.proofs.write.write_orbit_joins.Tie as tie
@@ -26,7 +26,7 @@ write-join-requires c κs =
 
 next-requires-2 : tie.Need-next-requires-2 Inv-loop μ-loop
 next-requires-2 c κs =
-    let l = c .before .before .before .before .before in joiningSound (start l .pre) (l .loop .inv)
+    let l = c .before .before .before .before .before in joiningAt (start l .pre) (l .loop .inv)
 
 loop-less : tie.Need-loop-less Inv-loop μ-loop
 loop-less c =

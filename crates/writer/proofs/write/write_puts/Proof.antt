@@ -6,7 +6,7 @@ use borrow.Author.Needs.{needs}
 use Rattle.hypermap.proofs.Basics.Bools.{refuted}
 use Rattle.table.specs.Layout.{capacity, isPresent}
 use Rattle.table.specs.Commands.{puts}
-use Rattle.table.proofs.Soundness.{firstWord, presentFrom}
+use Rattle.table.proofs.Holding.{firstWord, presentFrom}
 use Rattle.tape.specs.Tapes.{bytesOf}
 use Rattle.writer.proofs.Laying.{laysLength}
 use Rattle.writer.proofs.Passing.{Passing, passingNone, passingRoom, passingYes, passingNo, passingAll, allPuts}

@@ -1,0 +1,33 @@
+use borrow.Author.Needs.{needs}
+use mathlib.Core.Path.{sym, _∙_}
+use native.Mathlib.Omega.{arith}
+use Rattle.table.proofs.Stages.{passed, onePresent, accepted, refused}
+use Rattle.table.proofs.Reading.{dartWord}
+use Rattle.table.proofs.changes.take_out.Statement.{statement}
+use Rattle.table.proofs.changes.take_out.Tie as tie
+
+set-all-requires : tie.Need-set-all-requires
+set-all-requires c κs =
+    let t = c .before in
+    let p = passed _ _ (sym (t .before .take-out-refusal .ensures) ∙ t .if1 .taken) in
+    dartWord _ _ _ (onePresent _ _ (p .0)) (omega arith)
+
+returns : tie.Need-returns
+returns c =
+    let t = c .before .before .before .before in
+    let e = t .before .take-out-refusal .ensures in
+    (e, accepted _ _ _ _ _ e (t .if1 .taken) (c .before .before .set-all .ensures))
+
+returns-2 : tie.Need-returns-2
+returns-2 c = let e = c .before .take-out-refusal .ensures in (e, refused _ _ _ _ e (c .if1 .left))
+
+pub take-out-spec : {M : Type 1} → statement M
+take-out-spec =
+    tie.close
+    (tie.spec
+    (λ c κs. search needs)
+    set-all-requires
+    (λ c. search needs)
+    returns
+    (λ c. search needs)
+    returns-2)

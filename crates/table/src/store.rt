@@ -1,0 +1,32 @@
+// The changes of a table, each as document 01 writes it in words.
+ghost use mathlib.Core.Path.{_≡_};
+ghost use Rattle.table.specs.Commands.{withAll, swapped};
+ghost use Rattle.table.specs.Inner.{InTable, HypermapAtBoth, dimensionOf};
+use crate::Dimension;
+use crate::words;
+
+// All four words of dart x.
+pub fn set_all(table: &mut [u16], x: u16, value: u16)
+    requires { ⌜ InTable (now table) x 0 ⌝ }
+    ensures { λ _. ⌜ now (table .exit) ≡ withAll x value (now (table .entry)) ⌝ }
+{
+    words::set_word(table, x, 3, value);
+    words::set_word(table, x, 2, value);
+    words::set_word(table, x, 1, value);
+    words::set_word(table, x, 0, value);
+}
+
+// The change of Definition 2.8: a join or a cut.
+pub fn swap(table: &mut [u16], d: Dimension, a: u16, b: u16)
+    requires { ⌜ HypermapAtBoth (now table) a b ⌝ }
+    ensures { λ _. ⌜ now (table .exit) ≡ swapped (dimensionOf d) a b (now (table .entry)) ⌝ }
+{
+    let next = words::next_word(d);
+    let back = words::back_word(d);
+    let before_a = words::word(table, a, back);
+    let before_b = words::word(table, b, back);
+    words::set_word(table, a, back, before_b);
+    words::set_word(table, b, back, before_a);
+    words::set_word(table, before_b, next, a);
+    words::set_word(table, before_a, next, b);
+}
