@@ -1,6 +1,5 @@
 // The public calls for C, thin: each passes on what it is lent to a call of the kernel, under the prefix lotskadi_. The
-// dimension and the part stand in the name, since C has no such enums. Dart numbers come wide, so that a number that no
-// word holds is refused by 3 and never taken for another dart. include/lotskadi.h declares them.
+// dimension and the part stand in the name, since C has no such enums. include/lotskadi.h declares them.
 ghost use mathlib.Core.Path.{_≡_};
 ghost use Rattle.hypermap.specs.Hypermap.{edge, vertex};
 ghost use Rattle.table.specs.Commands.{puts, takesOut, joins, cuts};
@@ -11,7 +10,6 @@ ghost use Rattle.kernel.specs.Calls.{callRefusal, callLeaves, ringCallRefusal, 
 ghost use Rattle.kernel.specs.Calls.{componentReportOf, sameAnswer, roundAnswer, roundLeaves, marksAnswer, marksLeaves};
 ghost use Rattle.kernel.specs.Tapes.{playOutcome, tapeAnswer, tapeLeaves, screenRefusal, screenLeaves};
 ghost use Rattle.kernel.specs.TapeNeeds.{needsAnswer};
-ghost use Rattle.c_calls.specs.Narrowing.{narrowed};
 use kernel::Answer;
 use kernel::Dimension;
 use kernel::Needs;
@@ -20,21 +18,14 @@ use kernel::Part;
 use kernel::Run;
 use kernel::Totals;
 
-// A dart number in a word; 0, which is no dart either, where it does not fit.
-fn narrow(x: u32) -> u16
-    ensures { λ r. ⌜ r ≡ narrowed x ⌝ }
-{
-    if x <= 65535 { x as u16 } else { 0 }
-}
-
-// COMMANDS
+// CHANGES
 
 #[no_mangle]
 pub extern "C" fn lotskadi_put(table: &mut [u16], x: u32) -> u8
     ensures { λ r. ⌜ r ≡ callRefusal (now (table .entry)) (puts x) ⌝ }
     ensures table { λ r. ⌜ now (table .exit) ≡ callLeaves (now (table .entry)) (puts x) ⌝ }
 {
-    kernel::put(table, narrow(x))
+    kernel::put(table, x)
 }
 
 #[no_mangle]
@@ -42,7 +33,7 @@ pub extern "C" fn lotskadi_take_out(table: &mut [u16], x: u32) -> u8
     ensures { λ r. ⌜ r ≡ callRefusal (now (table .entry)) (takesOut x) ⌝ }
     ensures table { λ r. ⌜ now (table .exit) ≡ callLeaves (now (table .entry)) (takesOut x) ⌝ }
 {
-    kernel::take_out(table, narrow(x))
+    kernel::take_out(table, x)
 }
 
 #[no_mangle]
@@ -50,7 +41,7 @@ pub extern "C" fn lotskadi_edge_join(table: &mut [u16], a: u32, b: u32) -> u8
     ensures { λ r. ⌜ r ≡ callRefusal (now (table .entry)) (joins edge a b) ⌝ }
     ensures table { λ r. ⌜ now (table .exit) ≡ callLeaves (now (table .entry)) (joins edge a b) ⌝ }
 {
-    kernel::join(table, Dimension::Edge, narrow(a), narrow(b))
+    kernel::join(table, Dimension::Edge, a, b)
 }
 
 #[no_mangle]
@@ -58,7 +49,7 @@ pub extern "C" fn lotskadi_vertex_join(table: &mut [u16], a: u32, b: u32) -> u8
     ensures { λ r. ⌜ r ≡ callRefusal (now (table .entry)) (joins vertex a b) ⌝ }
     ensures table { λ r. ⌜ now (table .exit) ≡ callLeaves (now (table .entry)) (joins vertex a b) ⌝ }
 {
-    kernel::join(table, Dimension::Vertex, narrow(a), narrow(b))
+    kernel::join(table, Dimension::Vertex, a, b)
 }
 
 #[no_mangle]
@@ -66,7 +57,7 @@ pub extern "C" fn lotskadi_edge_cut(table: &mut [u16], a: u32, b: u32) -> u8
     ensures { λ r. ⌜ r ≡ callRefusal (now (table .entry)) (cuts edge a b) ⌝ }
     ensures table { λ r. ⌜ now (table .exit) ≡ callLeaves (now (table .entry)) (cuts edge a b) ⌝ }
 {
-    kernel::cut(table, Dimension::Edge, narrow(a), narrow(b))
+    kernel::cut(table, Dimension::Edge, a, b)
 }
 
 #[no_mangle]
@@ -74,7 +65,7 @@ pub extern "C" fn lotskadi_vertex_cut(table: &mut [u16], a: u32, b: u32) -> u8
     ensures { λ r. ⌜ r ≡ callRefusal (now (table .entry)) (cuts vertex a b) ⌝ }
     ensures table { λ r. ⌜ now (table .exit) ≡ callLeaves (now (table .entry)) (cuts vertex a b) ⌝ }
 {
-    kernel::cut(table, Dimension::Vertex, narrow(a), narrow(b))
+    kernel::cut(table, Dimension::Vertex, a, b)
 }
 
 #[no_mangle]
@@ -98,35 +89,35 @@ pub extern "C" fn lotskadi_report(table: &[u16]) -> Totals
 pub extern "C" fn lotskadi_component_report(table: &[u16], x: u32) -> Totals
     ensures { λ r. ⌜ r ≡ componentReportOf (now (table .entry)) x ⌝ }
 {
-    kernel::component_report(table, narrow(x))
+    kernel::component_report(table, x)
 }
 
 #[no_mangle]
 pub extern "C" fn lotskadi_same_edge(table: &[u16], a: u32, b: u32) -> Answer
     ensures { λ r. ⌜ r ≡ sameAnswer (now (table .entry)) part.Edge a b ⌝ }
 {
-    kernel::same(table, Part::Edge, narrow(a), narrow(b))
+    kernel::same(table, Part::Edge, a, b)
 }
 
 #[no_mangle]
 pub extern "C" fn lotskadi_same_vertex(table: &[u16], a: u32, b: u32) -> Answer
     ensures { λ r. ⌜ r ≡ sameAnswer (now (table .entry)) part.Vertex a b ⌝ }
 {
-    kernel::same(table, Part::Vertex, narrow(a), narrow(b))
+    kernel::same(table, Part::Vertex, a, b)
 }
 
 #[no_mangle]
 pub extern "C" fn lotskadi_same_face(table: &[u16], a: u32, b: u32) -> Answer
     ensures { λ r. ⌜ r ≡ sameAnswer (now (table .entry)) part.Face a b ⌝ }
 {
-    kernel::same(table, Part::Face, narrow(a), narrow(b))
+    kernel::same(table, Part::Face, a, b)
 }
 
 #[no_mangle]
 pub extern "C" fn lotskadi_same_component(table: &[u16], a: u32, b: u32) -> Answer
     ensures { λ r. ⌜ r ≡ sameAnswer (now (table .entry)) part.Component a b ⌝ }
 {
-    kernel::same(table, Part::Component, narrow(a), narrow(b))
+    kernel::same(table, Part::Component, a, b)
 }
 
 #[no_mangle]
@@ -134,7 +125,7 @@ pub extern "C" fn lotskadi_edge_round(table: &[u16], x: u32, out: &mut [u16]) ->
     ensures { λ r. ⌜ r ≡ roundAnswer (now (table .entry)) orbit.Edge x (now (out .entry)) ⌝ }
     ensures out { λ r. ⌜ now (out .exit) ≡ roundLeaves (now (table .entry)) orbit.Edge x (now (out .entry)) ⌝ }
 {
-    kernel::round(table, Orbit::Edge, narrow(x), out)
+    kernel::round(table, Orbit::Edge, x, out)
 }
 
 #[no_mangle]
@@ -142,7 +133,7 @@ pub extern "C" fn lotskadi_vertex_round(table: &[u16], x: u32, out: &mut [u16]) 
     ensures { λ r. ⌜ r ≡ roundAnswer (now (table .entry)) orbit.Vertex x (now (out .entry)) ⌝ }
     ensures out { λ r. ⌜ now (out .exit) ≡ roundLeaves (now (table .entry)) orbit.Vertex x (now (out .entry)) ⌝ }
 {
-    kernel::round(table, Orbit::Vertex, narrow(x), out)
+    kernel::round(table, Orbit::Vertex, x, out)
 }
 
 #[no_mangle]
@@ -150,7 +141,7 @@ pub extern "C" fn lotskadi_face_round(table: &[u16], x: u32, out: &mut [u16]) ->
     ensures { λ r. ⌜ r ≡ roundAnswer (now (table .entry)) orbit.Face x (now (out .entry)) ⌝ }
     ensures out { λ r. ⌜ now (out .exit) ≡ roundLeaves (now (table .entry)) orbit.Face x (now (out .entry)) ⌝ }
 {
-    kernel::round(table, Orbit::Face, narrow(x), out)
+    kernel::round(table, Orbit::Face, x, out)
 }
 
 #[no_mangle]

@@ -17,8 +17,9 @@ use Rattle.table.proofs.Stages.{passed, refusedFirst, refusedSecond, refused}
 use Rattle.parts.specs.Counts.{countsOf}
 use Rattle.parts.specs.declared.Counts.{Counts}
 use Rattle.rings.specs.Rings.{linksOf, ringRefusal, cutAlong, ringLeaves}
+use Rattle.soundness.specs.Soundness.{tableRefusal}
 use Rattle.kernel.specs.Calls.{refusedTotals, totalsOf, reportOn, ringCallRefusal, ringCallLeaves}
-use Rattle.kernel.specs.Calls.{tableRefusal, callRefusal, callLeaves, questionRefusal, refusedAnswer, answer, listRefusal}
+use Rattle.kernel.specs.Calls.{callRefusal, callLeaves, questionRefusal, refusedAnswer, answer, listRefusal}
 use Rattle.kernel.specs.Calls.{listLeaves, listAnswer}
 use Rattle.kernel.specs.declared.Answer.{Answer}
 

@@ -18,19 +18,21 @@ use Rattle.parts.specs.Counts.{lifts}
 use Rattle.parts.specs.Sharing.{isSame}
 use Rattle.parts.specs.declared.Part.the-variants.{Component}
 use Rattle.parts.proofs.Lifting.{liftsByDarts, liftsAddUp}
-use Rattle.kernel.specs.Calls.{tableRefusal, reportOn, questionRefusal, componentReportOf}
+use Rattle.soundness.specs.Soundness.{tableRefusal}
+use Rattle.kernel.specs.Calls.{reportOn, questionRefusal, componentReportOf}
 use Rattle.kernel.specs.ComponentReports.{IsOfOneComponent, sumOfReports, ReportsAddUp, ComponentPromise}
 use Rattle.kernel.specs.declared.Totals.{Totals}
-use Rattle.kernel.proofs.Judging.{Reported, tablePassed, planReported, reportPassed, dartReady, dartFits}
+use Rattle.soundness.proofs.Passing.{tablePassed}
+use Rattle.kernel.proofs.Judging.{Reported, planReported, reportPassed, dartReady, questionFits}
 use Rattle.kernel.proofs.Judging.{questionTable, componentPassed, componentReported}
 
 -- ONE
 module _ (w : Table) (x : ℕ) (z : questionRefusal w (x ∷ []) ≡ 0) where
   wf : isHypermap (hypermapOf w) ≡ true
-  wf = tableHypermap w (dartReady w x z .hypermap)
+  wf = tableHypermap w (dartReady w x z .at .hypermap)
 
   dart : Mem x (hypermapOf w .darts)
-  dart = memPresent w x ∙ dartReady w x z .here
+  dart = memPresent w x ∙ dartReady w x z .at .here
 
   connected : IsConnected (componentAt (hypermapOf w) x)
   connected = componentGenusLaw (hypermapOf w) wf .0 x dart
@@ -38,7 +40,7 @@ module _ (w : Table) (x : ℕ) (z : questionRefusal w (x ∷ []) ≡ 0) where
   shared : (y : ℕ) → isSame w Component x y ≡ true → componentReportOf w y ≡ componentReportOf w x
   shared y t =
       let i = rw memPresent at (componentLaw (hypermapOf w) wf .1 .within x y dart t) in
-      let f = dartFits w y (questionTable w (x ∷ []) z) i in
+      let f = questionFits w y (questionTable w (x ∷ []) z) i in
       ap (λ n. reportOn n (componentAt (hypermapOf w) y)) (f ∙ sym z) ∙
       ap (reportOn (questionRefusal w (x ∷ []))) (componentShared (hypermapOf w) wf x y dart t)
 
@@ -63,7 +65,7 @@ module _ (w : Table) (t : tableRefusal w ≡ 0) where
   sums = componentGenusLaw m wfAll .1
 
   given : (x : ℕ) → Mem x (representatives m) → Reported (componentReportOf w x) (componentAt m x)
-  given x i = componentReported w x (dartFits w x t (rw memPresent at (representativeDart m wfAll x i)))
+  given x i = componentReported w x (questionFits w x t (rw memPresent at (representativeDart m wfAll x i)))
 
   sum :
       (f : Totals → ℕ) (g : Hypermap → ℕ) →

@@ -13,7 +13,8 @@ use Rattle.hypermap.specs.Lists.{among}
 use Rattle.hypermap.specs.Hypermap.{Hypermap}
 use Rattle.hypermap.proofs.Basics.Bools.{byCases}
 use Rattle.table.specs.Refusals.{shortRoom}
-use Rattle.table.specs.Layout.{Table, wordsPerDart}
+use Rattle.table.specs.Limits.{wordsPerDart}
+use Rattle.table.specs.Layout.{Table}
 use Rattle.table.specs.Commands.{commandOn, leaves}
 use Rattle.table.proofs.Stages.{refused}
 use Rattle.table.proofs.Holding.{low, high}

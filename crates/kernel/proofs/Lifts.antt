@@ -4,7 +4,8 @@ use Rattle.table.specs.Layout.{hypermapOf}
 use Rattle.table.proofs.Holding.{tableHypermap}
 use Rattle.parts.proofs.Lifting.{liftsLaw}
 use Rattle.kernel.specs.Lifts.{LiftsPromise}
-use Rattle.kernel.proofs.Judging.{tablePassed, planReported, reportPassed}
+use Rattle.soundness.proofs.Passing.{tablePassed}
+use Rattle.kernel.proofs.Judging.{planReported, reportPassed}
 
 pub liftsPromise : LiftsPromise
 liftsPromise w e =

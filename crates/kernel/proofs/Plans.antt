@@ -11,16 +11,16 @@ use Rattle.parts.specs.Counts.{countsOf}
 use Rattle.rings.specs.Rings.{linksOf, isList, pairsTogether, pathCloses, conditionRefusal, ringRefusal, cutAlong}
 use Rattle.tape.specs.Tapes.{tapeBytes}
 use Rattle.writer.specs.Canonical.{orbitJoins, joinsOver, putsOf, tapeOf}
-use Rattle.kernel.specs.Calls.{sizeFits, tableRefusal, callRefusal, callLeaves, ringCallRefusal, ringCallLeaves}
+use Rattle.soundness.specs.Soundness.{sizeFits, isSound, tableRefusal}
+use Rattle.kernel.specs.Calls.{callRefusal, callLeaves, ringCallRefusal, ringCallLeaves}
 use Rattle.kernel.specs.Calls.{reportOn}
 use Rattle.kernel.specs.Tapes.{emptyTable}
 use Rattle.kernel.specs.Plans.{PlansLaw, sameNumbers, facesFit, rowFits, allFit, rows}
 
 pub plansLaw : PlansLaw
 unfolding all among keep leastOf walkFrom spread spreadBy allLinks noTwo lastOf continuity orElse unless upFrom wordAt
-    isPresent isAbsent wordsLinked dartFits holdsHypermap withWord withAll swapped presenceRefusal isTogether leaves markOf marksOf
-    countsOf linksOf isList pairsTogether pathCloses conditionRefusal ringRefusal cutAlong tapeBytes orbitJoins joinsOver
-    putsOf tapeOf sizeFits tableRefusal callRefusal callLeaves ringCallRefusal ringCallLeaves reportOn emptyTable sameNumbers
-    facesFit
-    rowFits allFit rows
+    isPresent isAbsent wordsLinked dartFits holdsHypermap withWord withAll swapped presenceRefusal isTogether leaves
+    markOf marksOf countsOf linksOf isList pairsTogether pathCloses conditionRefusal ringRefusal cutAlong tapeBytes
+    orbitJoins joinsOver putsOf tapeOf sizeFits isSound tableRefusal callRefusal callLeaves ringCallRefusal
+    ringCallLeaves reportOn emptyTable sameNumbers facesFit rowFits allFit rows
 plansLaw = refl

@@ -16,7 +16,8 @@ use Rattle.rings.specs.Rings.{conditionRefusal, ringRefusal}
 use Rattle.tape.specs.Steps.{TapeCommand, changes, reports, cutsRing, stepRefusal, stepOn}
 use Rattle.tape.specs.Tapes.{readRefusal, restOf, contentsBy}
 use Rattle.tape.specs.Runs.{runOver}
-use Rattle.kernel.specs.Calls.{tableRefusal, callRefusal, ringCallRefusal}
+use Rattle.soundness.specs.Soundness.{tableRefusal}
+use Rattle.kernel.specs.Calls.{callRefusal, ringCallRefusal}
 use Rattle.kernel.specs.Tapes.{tapeRefusal, playRefusal, playOutcome}
 use Rattle.kernel.specs.Demands.{OneOf, tableNumbers, commandNumbers, ringNumbers}
 use Rattle.kernel.specs.Demands.{runNumbers}

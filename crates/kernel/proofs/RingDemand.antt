@@ -25,12 +25,14 @@ use Rattle.rings.specs.Rings.{linksOf, ringRefusal, cutAlong}
 use Rattle.rings.specs.Laws.{IsCut, areDarts}
 use Rattle.rings.proofs.Conditions.{someLinks, conditionsLaw}
 use Rattle.rings.proofs.Parting.{acceptedDarts, acceptedCut, partingLaw, planarPartingLaw}
-use Rattle.kernel.specs.Calls.{tableRefusal, totalsOf, reportOf, ringCallRefusal, ringCallLeaves, questionRefusal}
+use Rattle.soundness.specs.Soundness.{tableRefusal}
+use Rattle.kernel.specs.Calls.{totalsOf, reportOf, ringCallRefusal, ringCallLeaves, questionRefusal}
 use Rattle.kernel.specs.Calls.{componentReportOf}
 use Rattle.kernel.specs.Demands.{IsPartedByReports, ComponentRingDemand, IsRingCut, RingDemand}
 use Rattle.kernel.proofs.Answering.{givenReport}
-use Rattle.kernel.proofs.Judging.{tablePassed, tableFits, sizeStays, planReported, componentPassed}
-use Rattle.kernel.proofs.Judging.{componentReported, dartReady, dartFits}
+use Rattle.soundness.proofs.Passing.{tablePassed, tableFits, sizeStays, holdsSound}
+use Rattle.kernel.proofs.Judging.{planReported, componentPassed}
+use Rattle.kernel.proofs.Judging.{componentReported, dartReady, questionFits}
 
 -- the links of an accepted list
 someLink : (ls : List DoubleLink) → (ls ≡ [] → ⊥) → (l : DoubleLink) × (ks : List DoubleLink) × (ls ≡ l ∷ ks)
@@ -66,7 +68,7 @@ module _ (w : Table) (ws : List ℕ) (e : ringCallRefusal w ws ≡ 0) where
   isCut = acceptedCut w ws hypermap f
 
   fits : tableRefusal v ≡ 0
-  fits = tableFits v (sizeStays v w (isCut .size) (tablePassed w t .size)) (isCut .hypermap)
+  fits = tableFits v (sizeStays v w (isCut .size) (tablePassed w t .size)) (holdsSound v (isCut .hypermap))
 
   wf : isHypermap (hypermapOf w) ≡ true
   wf = tableHypermap w hypermap
@@ -84,7 +86,7 @@ module _ (w : Table) (ws : List ℕ) (e : ringCallRefusal w ws ≡ 0) where
 
     -- a report of a dart, before and after
     asked : (x : ℕ) → Mem x (hypermapOf w .darts) → (questionRefusal w (x ∷ []) ≡ 0) × (questionRefusal v (x ∷ []) ≡ 0)
-    asked x d = (dartFits w x t (rw memPresent at d), dartFits v x fits (sym (memPresent v x) ∙ rw sameDarts d))
+    asked x d = (questionFits w x t (rw memPresent at d), questionFits v x fits (sym (memPresent v x) ∙ rw sameDarts d))
 
     module _ (g : componentReportOf w (l .first) .genus ≡ 0) where
       parted : IsParted (hypermapOf w) (hypermapOf v) l ls
@@ -103,7 +105,7 @@ module _ (w : Table) (ws : List ℕ) (e : ringCallRefusal w ws ≡ 0) where
           (x : ℕ) → componentReportOf w x .number ≡ 0 → isSame w Component (l .first) x ≡ false →
           componentReportOf v x ≡ componentReportOf w x
       others x i n =
-          let d : Mem x (hypermapOf w .darts) = memPresent w x ∙ dartReady w x (componentPassed w x i) .here in
+          let d : Mem x (hypermapOf w .darts) = memPresent w x ∙ dartReady w x (componentPassed w x i) .at .here in
           let z = asked x d in
           let c = untouchedCounts (hypermapOf w) (hypermapOf v) wf (tableHypermap v (isCut .hypermap)) sameDarts x d
           (parted .others x d n) in

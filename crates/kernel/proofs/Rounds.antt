@@ -9,7 +9,8 @@ use Rattle.table.specs.Layout.{Table, capacity}
 use Rattle.table.specs.Inner.{kindOf}
 use Rattle.table.specs.declared.Orbit.{Orbit}
 use Rattle.table.proofs.Walking.{lengthLaw}
-use Rattle.kernel.specs.Calls.{maxCapacity, questionRefusal, roundOf}
+use Rattle.table.specs.Limits.{maxCapacity}
+use Rattle.kernel.specs.Calls.{questionRefusal, roundOf}
 use Rattle.kernel.specs.Rounds.{RoundPromise}
 use Rattle.kernel.proofs.Answering.{listPassed, listRoom}
 use Rattle.kernel.proofs.Judging.{dartReady}
@@ -20,7 +21,7 @@ inCapacity :
     (length (roundOf w o x) ≤ capacity w) × (capacity w ≤ maxCapacity)
 inCapacity w o x z =
     let r = dartReady w x z in
-    (lengthLaw w (r .hypermap) (kindOf o) x (r .here) .inCapacity, r .room)
+    (lengthLaw w (r .at .hypermap) (kindOf o) x (r .at .here) .inCapacity, r .room)
 
 pub roundPromise : RoundPromise
 roundPromise = record {

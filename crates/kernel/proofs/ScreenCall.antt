@@ -5,14 +5,14 @@ use Prim.Native.Nat.{ℕ, _*_, _≤_, _<_}
 use lib.ListN.{length, drop, replicate}
 use borrow.Author.Tests.{le-leb, lt-leb}
 use Rattle.table.specs.Refusals.{wrongSize, shortRoom, orElse, unless}
-use Rattle.table.specs.Layout.{Table, wordsPerDart}
+use Rattle.table.specs.Limits.{wordsPerDart, maxCapacity, maxTape, screenRoom}
+use Rattle.table.specs.Layout.{Table}
 use Rattle.tape.specs.Runs.{runOf, toldOf}
 use Rattle.tape.specs.Inner.{Playable}
 use Rattle.tape.specs.declared.Run.{Run}
 use Rattle.tape.proofs.Running.{zerosWithin, runKeepsHypermapLaw}
-use Rattle.kernel.specs.Calls.{maxCapacity}
-use Rattle.writer.specs.Screens.{screenRoom, screenBytes, outcomeOf}
-use Rattle.kernel.specs.Tapes.{maxTape, tapeRefusal, screenRefusal, screenLeaves, emptyTable}
+use Rattle.writer.specs.Screens.{screenBytes, outcomeOf}
+use Rattle.kernel.specs.Tapes.{tapeRefusal, screenRefusal, screenLeaves, emptyTable}
 use Rattle.writer.specs.Inner.{ScreenRoom}
 
 -- THE CALL
@@ -41,12 +41,12 @@ unfolding emptyTable
 emptyIs n = refl
 
 pub emptyPlayable :
-    (n : ℕ) (bs : List ℕ) → n ≤ 4096 → length bs ≤ maxTape → Playable (replicate (wordsPerDart * n) 0) bs
+    (n : ℕ) (bs : List ℕ) → n ≤ maxCapacity → length bs ≤ maxTape → Playable (replicate (wordsPerDart * n) 0) bs
 emptyPlayable n bs h l = record { table = zerosWithin n h; short = l }
 
--- a run on it leaves a sound table of its size
+-- a run on it leaves a table within the capacity
 pub screenReady :
-    (n : ℕ) (bs o : List ℕ) (w : Table) → n ≤ 4096 → screenRoom ≤ length o →
+    (n : ℕ) (bs o : List ℕ) (w : Table) → n ≤ maxCapacity → screenRoom ≤ length o →
     w ≡ runOf (replicate (wordsPerDart * n) 0) bs .table → ScreenRoom w o
 screenReady n bs o w h l e =
     let k = zerosWithin n h in

@@ -14,6 +14,7 @@ use Rattle.hypermap.specs.Change.{change}
 use Rattle.hypermap.proofs.Laws.Orbits.{orbitLaw}
 use Rattle.hypermap.proofs.Laws.Components.{componentLaw}
 use Rattle.hypermap.proofs.Theory.{theory}
+use Rattle.table.specs.Limits.{longestCanonical}
 use Rattle.table.specs.Layout.{Table, isPresent, hypermapOf}
 use Rattle.table.specs.Commands.{Command, joins, cuts, swapped, isTogether, commandOn}
 use Rattle.table.specs.Inner.{kindOf}
@@ -32,12 +33,14 @@ use Rattle.writer.specs.Canonical.{tapeOf}
 use Rattle.writer.specs.Laws.{IsBuilt}
 use Rattle.writer.proofs.Sizes.{tapeFits}
 use Rattle.writer.proofs.Building.{buildLaw, onlyTapeLaw}
-use Rattle.kernel.specs.Calls.{tableRefusal, callRefusal, callLeaves, questionRefusal, sameAnswer}
+use Rattle.soundness.specs.Soundness.{tableRefusal}
+use Rattle.kernel.specs.Calls.{callRefusal, callLeaves, questionRefusal, sameAnswer}
 use Rattle.kernel.specs.Calls.{listRefusal, listLeaves, listAnswer, roundOf, roundAnswer}
 use Rattle.kernel.specs.Tapes.{playOutcome}
 use Rattle.kernel.specs.Demands.{JoinsBy, CutsBy, RingsBy, Shares, IsRound, SecondDemand}
 use Rattle.kernel.proofs.Answering.{givenAnswer, answerNumber, givenReport, listPassed}
-use Rattle.kernel.proofs.Judging.{tablePassed, tableFits, sizeStays, wholeWords, reportPassed, callPassed}
+use Rattle.soundness.proofs.Passing.{tablePassed, tableFits, sizeStays, wholeWords, holdsSound}
+use Rattle.kernel.proofs.Judging.{reportPassed, callPassed}
 use Rattle.table.proofs.Accepting.{joinPassed, joinFits, cutPassed, cutFits}
 use Rattle.kernel.proofs.Judging.{callFits, acceptedLeaves}
 use Rattle.kernel.proofs.Judging.{componentPassed, dartReady, dartsReady}
@@ -132,7 +135,7 @@ round w o x out e =
     let p = listPassed q l out e in
     let r = dartReady w x (p .0) in
     record {
-      orbit = orbitLaw (hypermapOf w) (tableHypermap w (r .hypermap)) (kindOf o) .0 x (memPresent w x ∙ r .here);
+      orbit = orbitLaw (hypermapOf w) (tableHypermap w (r .at .hypermap)) (kindOf o) .0 x (memPresent w x ∙ r .at .here);
       count = ap (λ a. a .count) (sym (givenAnswer _ (listRefusal q l out) false (length l) refl (p .1)));
       written = rw (eq-eqb (listRefusal q l out) 0 (p .1));
     }
@@ -142,9 +145,9 @@ emptyFits : (w : Table) → tableRefusal w ≡ 0 → tableRefusal (replicate (le
 emptyFits w e =
     tableFits (replicate (length w) 0)
     (sizeStays (replicate (length w) 0) w (length-replicate (length w) 0) (tablePassed w e .size))
-    (zerosHold (length w))
+    (holdsSound (replicate (length w) 0) (zerosHold (length w)))
 
-short : (w : Table) → tableRefusal w ≡ 0 → length (tapeOf w) ≤ 53238
+short : (w : Table) → tableRefusal w ≡ 0 → length (tapeOf w) ≤ longestCanonical
 short w e = let t = tablePassed w e in tapeFits w (t .hypermap) (t .room)
 
 built : (w : Table) → tableRefusal w ≡ 0 → IsBuilt w (playOutcome (replicate (length w) 0) (tapeOf w))

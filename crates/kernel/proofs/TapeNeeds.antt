@@ -11,7 +11,8 @@ use borrow.Author.Tests.{eqb-true, eqb-false, eq-eqb, ne-eqb}
 use Rattle.hypermap.specs.Lists.{among, all}
 use Rattle.hypermap.proofs.Basics.Bools.{byCases}
 use Rattle.table.specs.Refusals.{wrongSize, unknownCommand, tornCommand}
-use Rattle.table.specs.Layout.{Table, capacity, wordsPerDart, holdsHypermap}
+use Rattle.table.specs.Limits.{wordsPerDart, maxTape}
+use Rattle.table.specs.Layout.{Table, capacity, holdsHypermap}
 use Rattle.table.proofs.Stages.{passed}
 use Rattle.tape.specs.Steps.{TapeCommand}
 use Rattle.tape.specs.Tapes.{Contents, contentsOf}
@@ -23,10 +24,10 @@ use Rattle.needs.specs.declared.Needs.{Needs}
 use Rattle.needs.proofs.Capacities.{capacityLaw, acceptedCapacityLaw}
 use Rattle.needs.proofs.Peaks.{peakLaw, mostDartsLaw, noDarts}
 use Rattle.needs.proofs.ChangedWords.{wordsLaw}
-use Rattle.kernel.specs.Calls.{tableRefusal}
-use Rattle.kernel.specs.Tapes.{maxTape, tapeRefusal, playRefusal, playOutcome, emptyTable}
+use Rattle.soundness.specs.Soundness.{tableRefusal}
+use Rattle.kernel.specs.Tapes.{tapeRefusal, playRefusal, playOutcome, emptyTable}
 use Rattle.kernel.specs.TapeNeeds.{needsAnswer, IsForetold, NeedsPromise}
-use Rattle.kernel.proofs.Judging.{tablePassed}
+use Rattle.soundness.proofs.Passing.{tablePassed}
 use Rattle.kernel.proofs.Tapes.{tapeLong, tapeShort}
 use Rattle.kernel.proofs.RefusalNumbers.{One, unlessOne, contentsOne, widen}
 

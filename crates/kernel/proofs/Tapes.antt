@@ -17,8 +17,9 @@ use Rattle.writer.specs.Canonical.{tapeOf}
 use Rattle.writer.specs.Inner.{writtenOf, writtenLeaves}
 use Rattle.tape.specs.declared.Run.{Run}
 use Rattle.writer.specs.declared.Written.{Written}
-use Rattle.kernel.specs.Calls.{tableRefusal}
-use Rattle.kernel.specs.Tapes.{maxTape, tapeRefusal, playRefusal, playOutcome, tapeAnswer, tapeLeaves}
+use Rattle.soundness.specs.Soundness.{tableRefusal}
+use Rattle.table.specs.Limits.{maxTape}
+use Rattle.kernel.specs.Tapes.{tapeRefusal, playRefusal, playOutcome, tapeAnswer, tapeLeaves}
 use Rattle.kernel.specs.declared.Answer.{Answer}
 use Rattle.kernel.proofs.Answering.{listShort, listWritten}
 

@@ -18,14 +18,17 @@ use Rattle.hypermap.proofs.Hypermaps.Agreeing.{agree}
 use Rattle.hypermap.proofs.Laws.Changes.{changeHypermap}
 use Rattle.hypermap.proofs.Laws.GenusTheorem.{eulerEquation, orbitsLeast, orbitsMost, genusTheorem}
 use Rattle.hypermap.proofs.Laws.Joins.{joinLaw}
+use Rattle.table.specs.Limits.{maxCapacity}
 use Rattle.table.specs.Layout.{Table, hypermapOf}
 use Rattle.table.specs.Commands.{joins, swapped, isTogether}
 use Rattle.table.specs.Laws.{IsSwapped}
 use Rattle.table.proofs.Holding.{memPresent, tableHypermap, dartsFew}
 use Rattle.table.proofs.Swaps.{swapLaw}
-use Rattle.kernel.specs.Calls.{tableRefusal, reportOf}
+use Rattle.soundness.specs.Soundness.{tableRefusal}
+use Rattle.kernel.specs.Calls.{reportOf}
 use Rattle.kernel.specs.Demands.{GenusReported, GenusDemand, JoinsFreely, JoinDemand, ThirdDemand}
-use Rattle.kernel.proofs.Judging.{tablePassed, tableFits, sizeStays, planReported, reportPassed, callPassed}
+use Rattle.soundness.proofs.Passing.{tablePassed, tableFits, sizeStays, holdsSound}
+use Rattle.kernel.proofs.Judging.{planReported, reportPassed, callPassed}
 use Rattle.table.proofs.Accepting.{Joined, joinPassed}
 use Rattle.kernel.proofs.Judging.{acceptedLeaves}
 use Rattle.kernel.proofs.RingDemand.{ringDemand, componentRingDemand}
@@ -35,7 +38,7 @@ module _ (w : Table) (t : tableRefusal w ≡ 0) where
   wf : isHypermap (hypermapOf w) ≡ true
   wf = tableHypermap w (tablePassed w t .hypermap)
 
-  fewDarts : length (hypermapOf w .darts) ≤ 4096
+  fewDarts : length (hypermapOf w .darts) ≤ maxCapacity
   fewDarts = omega (arith, dartsFew w, tablePassed w t .room)
 
   -- by evenness the lowest is −4,092 and not 3 − 4,096
@@ -73,7 +76,7 @@ module _ (w : Table) (k : Dimension) (a b : ℕ) (t : tableRefusal w ≡ 0) (j :
   s = swapLaw w (tablePassed w t .hypermap) k a b (j .first) (j .second)
 
   fits : tableRefusal v ≡ 0
-  fits = tableFits v (sizeStays v w (s .size) (tablePassed w t .size)) (s .hypermap)
+  fits = tableFits v (sizeStays v w (s .size) (tablePassed w t .size)) (holdsSound v (s .hypermap))
 
   inA : isDart (hypermapOf w) a ≡ true
   inA = memPresent w a ∙ j .first

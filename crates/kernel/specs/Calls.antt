@@ -1,14 +1,15 @@
 -- What the public calls answer and leave. Document 01, "Questions" and "Refusals". Assumes nothing: these are
 -- definitions.
-use mathlib.Core.Bool.{Bool, false, _&&_, cond}
+use mathlib.Core.Bool.{Bool, false, cond}
 use mathlib.Core.List.{List, [], _∷_, _++_}
-use Prim.Native.Nat.{ℕ, _*_, _%_}
+use Prim.Native.Nat.{ℕ}
 use lib.Dec.{leb, eqb}
 use lib.IntN.{pos}
 use lib.ListN.{length, take, drop}
 use Rattle.hypermap.specs.Hypermap.{Hypermap, orbitOf, componentAt}
-use Rattle.table.specs.Refusals.{wrongSize, bentTable, shortRoom, orElse, unless}
-use Rattle.table.specs.Layout.{Table, wordsPerDart, place, holdsHypermap, hypermapOf}
+use Rattle.table.specs.Refusals.{shortRoom, orElse, unless}
+use Rattle.table.specs.Limits.{wordsPerDart}
+use Rattle.table.specs.Layout.{Table, place, hypermapOf}
 use Rattle.table.specs.Commands.{Command, presenceRefusal, commandRefusal, commandOn, leaves}
 use Rattle.table.specs.Inner.{kindOf}
 use Rattle.table.specs.declared.Orbit.{Orbit}
@@ -17,19 +18,10 @@ use Rattle.parts.specs.Counts.{countsOf}
 use Rattle.parts.specs.Sharing.{isSame}
 use Rattle.parts.specs.declared.Counts.{Counts}
 use Rattle.parts.specs.declared.Part.{Part}
+use Rattle.soundness.specs.Soundness.{tableRefusal}
 use Rattle.rings.specs.Rings.{linksOf, ringRefusal, cutAlong}
 use Rattle.kernel.specs.declared.Totals.{Totals}
 use Rattle.kernel.specs.declared.Answer.{Answer}
-
--- 1 and 2 come before all else
-abbrev pub maxCapacity : ℕ
-maxCapacity = 4096
-
-unfoldable pub sizeFits : Table → Bool
-sizeFits w = eqb (length w % wordsPerDart) 0 && leb (length w) (wordsPerDart * maxCapacity)
-
-unfoldable pub tableRefusal : Table → ℕ
-tableRefusal w = orElse (unless (sizeFits w) wrongSize) (unless (holdsHypermap w) bentTable)
 
 -- COMMANDS
 unfoldable pub callRefusal : Table → Command → ℕ
@@ -46,7 +38,7 @@ unfoldable pub ringCallLeaves : Table → (ring : List ℕ) → Table
 ringCallLeaves w ws = leaves (ringCallRefusal w ws) (cutAlong (linksOf ws) w) w
 
 -- A REPORT: the refusal and zeros, or 0 and the counts of a hypermap
-abbrev pub refusedTotals : (number : ℕ) → Totals
+abbrev pub refusedTotals : (refusal : ℕ) → Totals
 refusedTotals n =
     record {
       number = n;
@@ -88,7 +80,7 @@ questionRefusal w xs = orElse (tableRefusal w) (presenceRefusal w xs)
 abbrev pub componentReportOf : Table → (x : ℕ) → Totals
 componentReportOf w x = reportOn (questionRefusal w (x ∷ [])) (componentAt (hypermapOf w) x)
 
-abbrev pub refusedAnswer : (number : ℕ) → Answer
+abbrev pub refusedAnswer : (refusal : ℕ) → Answer
 refusedAnswer n = record { number = n; yes = false; count = 0 }
 
 -- a refusal with all else zero, or 0 with what was asked

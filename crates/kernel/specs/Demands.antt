@@ -16,6 +16,7 @@ use Rattle.hypermap.specs.Ring.{DoubleLink, breakAlong}
 use Rattle.hypermap.specs.Laws.{Reaches, Connects, IsOrbit}
 use Rattle.hypermap.specs.RingLaws.{IsParted}
 use Rattle.hypermap.specs.Theory.{Theory}
+use Rattle.table.specs.Limits.{longestCanonical}
 use Rattle.table.specs.Refusals.{wrongSize, bentTable, offTheTable, noTab, tabTaken, tabHeld, together, apart, sameTab}
 use Rattle.table.specs.Refusals.{noList, tieTwice, gapTwice, pathBroken, shortRoom, unknownCommand, tornCommand}
 use Rattle.table.specs.Layout.{Table, hypermapOf}
@@ -34,7 +35,8 @@ use Rattle.tape.specs.Runs.{stopped}
 use Rattle.writer.specs.Canonical.{tapeOf}
 use Rattle.tape.specs.Laws.{IsRun}
 use Rattle.writer.specs.Laws.{IsBuilt}
-use Rattle.kernel.specs.Calls.{tableRefusal, callRefusal, callLeaves, reportOf, totalsOf, refusedTotals}
+use Rattle.soundness.specs.Soundness.{tableRefusal}
+use Rattle.kernel.specs.Calls.{callRefusal, callLeaves, reportOf, totalsOf, refusedTotals}
 use Rattle.kernel.specs.Calls.{ringCallRefusal, ringCallLeaves, componentReportOf, refusedAnswer, sameAnswer}
 use Rattle.kernel.specs.Calls.{roundOf, roundAnswer, roundLeaves, marksAnswer, marksLeaves, lookOf}
 use Rattle.kernel.specs.Tapes.{playRefusal, playOutcome, tapeAnswer, tapeLeaves, screenRefusal, screenLeaves}
@@ -172,7 +174,7 @@ pub record SecondDemand : Type 0 where
   -- "A written tape, played on an empty table of the same size, builds the same plan": accepted whole, each of its
   -- commands counted; "At most 53,238 bytes"
   pub built : (w : Table) → tableRefusal w ≡ 0 → IsBuilt w (playOutcome (replicate (length w) 0) (tapeOf w))
-  pub short : (w : Table) → tableRefusal w ≡ 0 → length (tapeOf w) ≤ 53238
+  pub short : (w : Table) → tableRefusal w ≡ 0 → length (tapeOf w) ≤ longestCanonical
   -- "and unequal plans of one size never share a tape"
   pub onlyTape :
       (v w : Table) → tableRefusal v ≡ 0 → tableRefusal w ≡ 0 → length v ≡ length w → tapeOf v ≡ tapeOf w → v ≡ w

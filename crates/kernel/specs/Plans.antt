@@ -46,13 +46,13 @@ leftBy w (changes c) = callLeaves w c
 leftBy w reports = w
 leftBy w (cutsRing ws) = ringCallLeaves w ws
 
-abbrev pub marksOf : Table → TapeCommand → List ℕ
-marksOf w (changes (puts x)) = []
-marksOf w (changes (takesOut x)) = []
-marksOf w (changes (joins k a b)) = marking (hypermapOf w) k a ∷ marking (hypermapOf w) k b ∷ []
-marksOf w (changes (cuts k a b)) = []
-marksOf w reports = []
-marksOf w (cutsRing ws) = []
+abbrev pub markingDarts : Table → TapeCommand → List ℕ
+markingDarts w (changes (puts x)) = []
+markingDarts w (changes (takesOut x)) = []
+markingDarts w (changes (joins k a b)) = marking (hypermapOf w) k a ∷ marking (hypermapOf w) k b ∷ []
+markingDarts w (changes (cuts k a b)) = []
+markingDarts w reports = []
+markingDarts w (cutsRing ws) = []
 
 -- no characteristic in the table is negative
 abbrev pub reportNumbers : Totals → List ℕ
@@ -79,7 +79,7 @@ planFits w p =
 
 abbrev pub triedFits : Table → Row → Bool
 triedFits w r =
-    eqb (refusalBy w (r .tried)) (r .refusal) && sameNumbers (marksOf w (r .tried)) (r .marks) &&
+    eqb (refusalBy w (r .tried)) (r .refusal) && sameNumbers (markingDarts w (r .tried)) (r .marks) &&
     planFits (leftBy w (r .tried)) (r .plan)
 
 unfoldable pub rowFits : Table → (setUp : List TapeCommand) → Row → Bool

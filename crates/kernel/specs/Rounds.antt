@@ -5,7 +5,8 @@ use Prim.Native.Nat.{ℕ, _≤_}
 use lib.ListN.{length}
 use Rattle.table.specs.Layout.{Table, capacity}
 use Rattle.table.specs.declared.Orbit.{Orbit}
-use Rattle.kernel.specs.Calls.{maxCapacity, questionRefusal, roundAnswer}
+use Rattle.table.specs.Limits.{maxCapacity}
+use Rattle.kernel.specs.Calls.{questionRefusal, roundAnswer}
 
 pub record RoundPromise : Type 0 where
   pub most :

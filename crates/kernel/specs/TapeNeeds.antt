@@ -12,7 +12,8 @@ use Rattle.tape.specs.Tapes.{contentsOf}
 use Rattle.needs.specs.Amounts.{refusedNeeds, neededBy}
 use Rattle.needs.specs.Laws.{NoneOff, IsPeak, mostDarts, changedOn}
 use Rattle.needs.specs.declared.Needs.{Needs}
-use Rattle.kernel.specs.Tapes.{maxTape, tapeRefusal, playOutcome, emptyTable}
+use Rattle.table.specs.Limits.{maxTape}
+use Rattle.kernel.specs.Tapes.{tapeRefusal, playOutcome, emptyTable}
 use Rattle.kernel.specs.Demands.{OneOf}
 
 -- 1 for the tape, then the first 15 or 16

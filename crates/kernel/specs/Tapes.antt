@@ -6,17 +6,16 @@ use Prim.Native.Nat.{ℕ, _*_}
 use lib.Dec.{leb, eqb}
 use lib.ListN.{length, drop, replicate}
 use Rattle.table.specs.Refusals.{wrongSize, shortRoom, orElse, unless}
-use Rattle.table.specs.Layout.{Table, wordsPerDart}
+use Rattle.table.specs.Limits.{wordsPerDart, maxCapacity, maxTape, screenRoom}
+use Rattle.table.specs.Layout.{Table}
 use Rattle.tape.specs.Runs.{Outcome, stopped, runOf}
 use Rattle.writer.specs.Canonical.{tapeOf}
-use Rattle.writer.specs.Screens.{screenRoom, screenBytes}
-use Rattle.kernel.specs.Calls.{maxCapacity, tableRefusal, listAnswer, listLeaves}
+use Rattle.writer.specs.Screens.{screenBytes}
+use Rattle.soundness.specs.Soundness.{tableRefusal}
+use Rattle.kernel.specs.Calls.{listAnswer, listLeaves}
 use Rattle.kernel.specs.declared.Answer.{Answer}
 
 -- PLAYING: 1 for the tape or the table, then 2, before the first command is read
-abbrev pub maxTape : ℕ
-maxTape = 65536
-
 unfoldable pub tapeRefusal : (tape : List ℕ) → ℕ
 tapeRefusal bs = unless (leb (length bs) maxTape) wrongSize
 

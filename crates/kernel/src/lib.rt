@@ -2,7 +2,7 @@
 // whatever numbers come, each call answers, and its contract says what, and what every lent word is afterwards.
 ghost use mathlib.Core.Path.{_≡_};
 ghost use Rattle.table.specs.Commands.{puts, takesOut, joins, cuts};
-ghost use Rattle.table.specs.Inner.{dimensionOf};
+ghost use Rattle.table.specs.Inner.{dimensionOf, commandFor};
 ghost use Rattle.kernel.specs.Calls.{callRefusal, callLeaves, ringCallRefusal, ringCallLeaves, reportOf};
 ghost use Rattle.kernel.specs.Calls.{componentReportOf, sameAnswer, roundAnswer, roundLeaves, marksAnswer};
 ghost use Rattle.kernel.specs.Calls.{marksLeaves, lookOf};
@@ -11,21 +11,29 @@ ghost use Rattle.kernel.specs.Tapes.{playOutcome, tapeAnswer, tapeLeaves
 ghost use Rattle.kernel.specs.TapeNeeds.{needsAnswer};
 
 mod answers;
-mod judge;
+mod questions;
 
 pub use needs::Needs;
-use needs::count as count_needs;
+use needs::tallying;
 pub use parts::Part;
 use parts::count;
 use parts::flood;
 use parts::share;
-use rings::cut;
+use rings::cut as ring_cutting;
+use soundness::table_refusal;
+pub use table::Change;
 pub use table::Dimension;
 pub use table::Orbit;
 use table::changes;
+use table::limits::EDGE_NEXT;
+use table::limits::MAX_TAPE;
+use table::limits::MAX_WORDS;
+use table::limits::SCREEN_ROOM;
+use table::limits::WORDS_PER_DART;
 use table::refusals;
 use table::walk;
 use table::words;
+use table::words::to_word;
 pub use tape::Run;
 use tape::play as player;
 use writer::screen::write_answer;
@@ -53,61 +61,59 @@ pub struct Answer {
     pub count: u32,
 }
 
-// Bytes that a tape may have.
-const MAX_TAPE: usize = 65536;
+// CHANGES: each answers 0, or its refusal, and then no word has changed. One call makes them all; the others name one
+// change each.
 
-// Bytes that the screen's buffer has at least.
-const SCREEN_ROOM: usize = 53278;
-
-// COMMANDS: each answers 0, or its refusal, and then no word has changed.
+pub fn make_change(table: &mut [u16], change: Change) -> u8
+    ensures { λ r. ⌜ r ≡ callRefusal (now (table .entry)) (commandFor change) ⌝ }
+    ensures table { λ r. ⌜ now (table .exit) ≡ callLeaves (now (table .entry)) (commandFor change) ⌝ }
+{
+    let refusal = table_refusal(table);
+    if refusal != 0 {
+        return refusal;
+    }
+    changes::perform(table, change)
+}
 
 // Dart x appears, an edge and a vertex by itself.
-pub fn put(table: &mut [u16], x: u16) -> u8
+pub fn put(table: &mut [u16], x: u32) -> u8
     ensures { λ r. ⌜ r ≡ callRefusal (now (table .entry)) (puts x) ⌝ }
     ensures table { λ r. ⌜ now (table .exit) ≡ callLeaves (now (table .entry)) (puts x) ⌝ }
 {
-    let refusal = judge::table_refusal(table);
-    if refusal != 0 {
-        return refusal;
-    }
-    changes::put(table, x)
+    make_change(table, Change::Put(x))
 }
 
 // Dart x disappears, which is an edge and a vertex by itself.
-pub fn take_out(table: &mut [u16], x: u16) -> u8
+pub fn take_out(table: &mut [u16], x: u32) -> u8
     ensures { λ r. ⌜ r ≡ callRefusal (now (table .entry)) (takesOut x) ⌝ }
     ensures table { λ r. ⌜ now (table .exit) ≡ callLeaves (now (table .entry)) (takesOut x) ⌝ }
 {
-    let refusal = judge::table_refusal(table);
-    if refusal != 0 {
-        return refusal;
-    }
-    changes::take_out(table, x)
+    make_change(table, Change::TakeOut(x))
 }
 
 // The edges, or the vertices, of a and b become one.
-pub fn join(table: &mut [u16], d: Dimension, a: u16, b: u16) -> u8
+pub fn join(table: &mut [u16], d: Dimension, a: u32, b: u32) -> u8
     ensures { λ r. ⌜ r ≡ callRefusal (now (table .entry)) (joins (dimensionOf d) a b) ⌝ }
     ensures table { λ r. ⌜ now (table .exit) ≡ callLeaves (now (table .entry)) (joins (dimensionOf d) a b) ⌝ }
 {
-    let refusal = judge::table_refusal(table);
-    if refusal != 0 {
-        return refusal;
+    match d {
+        Dimension::Edge => make_change(table, Change::EdgeJoin(a, b)),
+        Dimension::Vertex => make_change(table, Change::VertexJoin(a, b)),
     }
-    changes::join(table, d, a, b)
 }
 
 // The edge, or the vertex, of a and b becomes two, one with a and one with b.
-pub fn cut(table: &mut [u16], d: Dimension, a: u16, b: u16) -> u8
+pub fn cut(table: &mut [u16], d: Dimension, a: u32, b: u32) -> u8
     ensures { λ r. ⌜ r ≡ callRefusal (now (table .entry)) (cuts (dimensionOf d) a b) ⌝ }
     ensures table { λ r. ⌜ now (table .exit) ≡ callLeaves (now (table .entry)) (cuts (dimensionOf d) a b) ⌝ }
 {
-    let refusal = judge::table_refusal(table);
-    if refusal != 0 {
-        return refusal;
+    match d {
+        Dimension::Edge => make_change(table, Change::EdgeCut(a, b)),
+        Dimension::Vertex => make_change(table, Change::VertexCut(a, b)),
     }
-    changes::cut(table, d, a, b)
 }
+
+// A RING
 
 // Cuts the edge of each double-link of a ring, lent as a list of words: the two darts of each double-link in turn.
 // Document 01: the ring cut, crossing by crossing.
@@ -115,11 +121,11 @@ pub fn ring_cut(table: &mut [u16], ring: &[u16]) -> u8
     ensures { λ r. ⌜ r ≡ ringCallRefusal (now (table .entry)) (now (ring .entry)) ⌝ }
     ensures table { λ r. ⌜ now (table .exit) ≡ ringCallLeaves (now (table .entry)) (now (ring .entry)) ⌝ }
 {
-    let refusal = judge::table_refusal(table);
+    let refusal = table_refusal(table);
     if refusal != 0 {
         return refusal;
     }
-    cut::ring_cut(table, ring)
+    ring_cutting::cut_ring(table, ring)
 }
 
 // QUESTIONS
@@ -129,7 +135,7 @@ pub fn ring_cut(table: &mut [u16], ring: &[u16]) -> u8
 pub fn report(table: &[u16]) -> Totals
     ensures { λ r. ⌜ r ≡ reportOf (now (table .entry)) ⌝ }
 {
-    let refusal = judge::table_refusal(table);
+    let refusal = table_refusal(table);
     if refusal != 0 {
         return answers::refused_totals(refusal);
     }
@@ -137,45 +143,46 @@ pub fn report(table: &[u16]) -> Totals
 }
 
 // The same numbers of the component of x by itself.
-pub fn component_report(table: &[u16], x: u16) -> Totals
+pub fn component_report(table: &[u16], x: u32) -> Totals
     ensures { λ r. ⌜ r ≡ componentReportOf (now (table .entry)) x ⌝ }
 {
-    let refusal = judge::dart_question_refusal(table, x);
+    let refusal = questions::dart_question_refusal(table, x);
     if refusal != 0 {
         return answers::refused_totals(refusal);
     }
-    answers::totals(count::component_counts(table, x))
+    answers::totals(count::component_counts(table, to_word(x)))
 }
 
 // Whether a and b lie in one edge, vertex, face or component.
-pub fn same(table: &[u16], part: Part, a: u16, b: u16) -> Answer
+pub fn same(table: &[u16], part: Part, a: u32, b: u32) -> Answer
     ensures { λ r. ⌜ r ≡ sameAnswer (now (table .entry)) part a b ⌝ }
 {
-    let refusal = judge::darts_question_refusal(table, a, b);
+    let refusal = questions::darts_question_refusal(table, a, b);
     if refusal != 0 {
         return answers::refused(refusal);
     }
     Answer {
         number: 0,
-        yes: share::is_same(table, part, a, b),
+        yes: share::is_same(table, part, to_word(a), to_word(b)),
         count: 0,
     }
 }
 
 // The edge, vertex or face of x into out, in walking order and x first; the count is its length.
-pub fn round(table: &[u16], orbit: Orbit, x: u16, out: &mut [u16]) -> Answer
+pub fn round(table: &[u16], orbit: Orbit, x: u32, out: &mut [u16]) -> Answer
     ensures { λ r. ⌜ r ≡ roundAnswer (now (table .entry)) orbit x (now (out .entry)) ⌝ }
     ensures out { λ r. ⌜ now (out .exit) ≡ roundLeaves (now (table .entry)) orbit x (now (out .entry)) ⌝ }
 {
-    let refusal = judge::dart_question_refusal(table, x);
+    let refusal = questions::dart_question_refusal(table, x);
     if refusal != 0 {
         return answers::refused(refusal);
     }
-    let count = walk::orbit_length(table, orbit, x);
+    let dart = to_word(x);
+    let count = walk::orbit_length(table, orbit, dart);
     if out.len() < count as usize {
         return answers::refused(refusals::SHORT_ROOM);
     }
-    walk::write_orbit(table, orbit, x, out);
+    walk::write_orbit(table, orbit, dart, out);
     Answer {
         number: 0,
         yes: false,
@@ -189,7 +196,7 @@ pub fn component_marks(table: &[u16], out: &mut [u16]) -> Answer
     ensures { λ r. ⌜ r ≡ marksAnswer (now (table .entry)) (now (out .entry)) ⌝ }
     ensures out { λ r. ⌜ now (out .exit) ≡ marksLeaves (now (table .entry)) (now (out .entry)) ⌝ }
 {
-    let refusal = judge::table_refusal(table);
+    let refusal = table_refusal(table);
     if refusal != 0 {
         return answers::refused(refusal);
     }
@@ -206,13 +213,13 @@ pub fn component_marks(table: &[u16], out: &mut [u16]) -> Answer
 }
 
 // The words of dart x in the table, not a copy; empty where "same edge as itself" is refused.
-pub fn look<'a>(table: &'a [u16], x: u16) -> &'a [u16]
+pub fn look<'a>(table: &'a [u16], x: u32) -> &'a [u16]
     ensures { λ r. ⌜ now r ≡ lookOf (now (table .entry)) x ⌝ }
 {
-    let refusal = judge::darts_question_refusal(table, x, x);
+    let refusal = questions::darts_question_refusal(table, x, x);
     if refusal == 0 {
-        let at = words::place_of(x, 0);
-        let end = at + words::WORDS;
+        let at = words::place_of(x, EDGE_NEXT);
+        let end = at + WORDS_PER_DART;
         &table[at..end]
     } else {
         &table[..0]
@@ -232,7 +239,7 @@ pub fn play(table: &mut [u16], tape: &[u8]) -> Run
             accepted: 0,
         };
     }
-    let refusal = judge::table_refusal(table);
+    let refusal = table_refusal(table);
     if refusal != 0 {
         return Run {
             number: refusal,
@@ -248,9 +255,9 @@ pub fn tape_needs(tape: &[u8]) -> Needs
     ensures { λ r. ⌜ r ≡ needsAnswer (now (tape .entry)) ⌝ }
 {
     if MAX_TAPE < tape.len() {
-        return count_needs::refused(refusals::WRONG_SIZE);
+        return tallying::refused(refusals::WRONG_SIZE);
     }
-    count_needs::needs_of(tape)
+    tallying::needs_of(tape)
 }
 
 // The canonical tape of the table into out; the count is its bytes.
@@ -258,7 +265,7 @@ pub fn write_tape(table: &[u16], out: &mut [u8]) -> Answer
     ensures { λ r. ⌜ r ≡ tapeAnswer (now (table .entry)) (now (out .entry)) ⌝ }
     ensures out { λ r. ⌜ now (out .exit) ≡ tapeLeaves (now (table .entry)) (now (out .entry)) ⌝ }
 {
-    let refusal = judge::table_refusal(table);
+    let refusal = table_refusal(table);
     if refusal != 0 {
         return answers::refused(refusal);
     }
@@ -282,7 +289,7 @@ pub fn screen(tape: &[u8], out: &mut [u8]) -> u8
     if out.len() < SCREEN_ROOM {
         return refusals::SHORT_ROOM;
     }
-    let mut table = [0u16; 16384];
+    let mut table = [0u16; MAX_WORDS];
     let run = player::play(&mut table, tape);
     write_answer(&table, run, out);
     0

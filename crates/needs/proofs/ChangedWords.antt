@@ -11,7 +11,8 @@ use borrow.Author.Tests.{eqb-false, not-true}
 use Rattle.hypermap.specs.Hypermap.{edge}
 use Rattle.hypermap.specs.Ring.{DoubleLink, allLinks, pairsDiffer}
 use Rattle.hypermap.proofs.Basics.Bools.{andLeft, andRight}
-use Rattle.table.specs.Layout.{Table, wordsPerDart, holdsHypermap, hypermapOf}
+use Rattle.table.specs.Limits.{wordsPerChange}
+use Rattle.table.specs.Layout.{Table, holdsHypermap, hypermapOf}
 use Rattle.table.specs.Commands.{swapped}
 use Rattle.rings.specs.Rings.{linksOf, ringRefusal}
 use Rattle.rings.specs.Laws.{areDarts}
@@ -27,7 +28,7 @@ use Rattle.needs.proofs.Differences.{swapWords, commandWords}
 -- A RING: each double-link is a swap of two darts
 alongWords :
     (ls : List DoubleLink) (w : Table) → holdsHypermap w ≡ true → areDarts (hypermapOf w) ls ≡ true →
-    pairsDiffer ls ≡ true → changedAlong ls w ≡ wordsPerDart * length ls
+    pairsDiffer ls ≡ true → changedAlong ls w ≡ wordsPerChange * length ls
 unfolding changedAlong allLinks
 alongWords [] w s t d = refl
 alongWords (l ∷ ls) w s t d =
@@ -40,13 +41,13 @@ alongWords (l ∷ ls) w s t d =
 
 ringWords :
     (w : Table) (ws : List ℕ) → holdsHypermap w ≡ true → ringRefusal w ws ≡ 0 →
-    changedAlong (linksOf ws) w ≡ wordsPerDart * length (linksOf ws)
+    changedAlong (linksOf ws) w ≡ wordsPerChange * length (linksOf ws)
 ringWords w ws s e =
     alongWords (linksOf ws) w s (acceptedDarts w ws e) (acceptedList w ws e .fit .differ)
 
 -- A TAPE
 stepWords :
-    (w : Table) (c : TapeCommand) → holdsHypermap w ≡ true → stepRefusal w c ≡ 0 → changedBy w c ≡ wordsPerDart * changesBy c
+    (w : Table) (c : TapeCommand) → holdsHypermap w ≡ true → stepRefusal w c ≡ 0 → changedBy w c ≡ wordsPerChange * changesBy c
 stepWords w (changes c) s e = commandWords w c s e
 stepWords w reports s e = refl
 stepWords w (cutsRing ws) s e = ringWords w ws s e

@@ -15,6 +15,7 @@ use Rattle.hypermap.specs.Hypermap.{Dimension, of}
 use Rattle.hypermap.proofs.Basics.Bools.{byCases, clash}
 use Rattle.hypermap.proofs.Basics.Lists.{Mem, memNil, memCases, notAmong, keepMem, memKept, risingKeep, risingDistinct}
 use Rattle.hypermap.proofs.Basics.Lists.{pigeonhole}
+use Rattle.table.specs.Limits.{hypermapWords, wordsPerChange}
 use Rattle.table.specs.Refusals.{apart}
 use Rattle.table.specs.Layout.{Table, capacity, upFrom, place, wordAt, nextWord, backWord, isPresent}
 use Rattle.table.specs.Layout.{holdsHypermap}
@@ -67,7 +68,7 @@ module _ (v w : Table) (size : length w ≡ length v) where
 
 -- A SWAP of two darts
 pub swapWords :
-    (w : Table) (k : Dimension) (a b : ℕ) → IsSwapped w k a b → (a ≡ b → ⊥) → differing w (swapped k a b w) ≡ 4
+    (w : Table) (k : Dimension) (a b : ℕ) → IsSwapped w k a b → (a ≡ b → ⊥) → differing w (swapped k a b w) ≡ wordsPerChange
 swapWords w k a b z d =
     let f = z .fourWords d in differingIs w (swapped k a b w) (z .size) (fourPlaces w k a b) (f .four) (f .differ)
 
@@ -102,7 +103,7 @@ module _ (w : Table) (x u v : ℕ) (l : 1 ≤ x) (h : x ≤ capacity w) where
 
   module _
       (same : (k : Dimension) → (wordAt w x (nextWord k) ≡ u) × (wordAt w x (backWord k) ≡ u)) (d : u ≡ v → ⊥) where
-    wordChanged : (j : ℕ) → j < 4 → getD (withAll x v w) (place x j) 0 ≡ getD w (place x j) 0 → ⊥
+    wordChanged : (j : ℕ) → j < hypermapWords → getD (withAll x v w) (place x j) 0 ≡ getD w (place x j) 0 → ⊥
     unfolding wordAt
     wordChanged j g e = d (sym (eachWord (λ j. wordAt w x j ≡ u) same j g) ∙ sym e ∙ here w x v l h j g)
 
@@ -118,7 +119,7 @@ module _ (w : Table) (x u v : ℕ) (l : 1 ≤ x) (h : x ≤ capacity w) where
         (λ c. wordChanged 3 (omega arith) (rw c at e))
         (λ m₄. memNil i m₄))))
 
-    dartWords : differing w (withAll x v w) ≡ 4
+    dartWords : differing w (withAll x v w) ≡ wordsPerChange
     dartWords =
         differingIs w (withAll x v w) (allLength w x v l h) own ownDistinct
         (λ i. (
@@ -128,12 +129,12 @@ module _ (w : Table) (x u v : ℕ) (l : 1 ≤ x) (h : x ≤ capacity w) where
 
 -- A COMMAND that is accepted
 module _ (w : Table) (s : holdsHypermap w ≡ true) where
-  putWords : (x : ℕ) → Free w x → differing w (withAll x x w) ≡ 4
+  putWords : (x : ℕ) → Free w x → differing w (withAll x x w) ≡ wordsPerChange
   putWords x f =
       let l = f .low in
       dartWords w x 0 x l (f .high) (empty w s x l (f .high) (f .absent)) (λ e. absurd (omega arith))
 
-  takeOutWords : (x : ℕ) → Alone w x → differing w (withAll x 0 w) ≡ 4
+  takeOutWords : (x : ℕ) → Alone w x → differing w (withAll x 0 w) ≡ wordsPerChange
   takeOutWords x f =
       let p = f .present in
       dartWords w x x 0 (low w x p) (high w x p)
@@ -142,7 +143,7 @@ module _ (w : Table) (s : holdsHypermap w ≡ true) where
 
   twoWords :
       (k : Dimension) (a b : ℕ) → isPresent w a ≡ true → isPresent w b ≡ true → (a ≡ b → ⊥) →
-      differing w (swapped k a b w) ≡ 4
+      differing w (swapped k a b w) ≡ wordsPerChange
   twoWords k a b p q d = swapWords w k a b (swapLaw w s k a b p q) d
 
   -- a dart is together with itself
@@ -152,7 +153,7 @@ module _ (w : Table) (s : holdsHypermap w ≡ true) where
       clash (sameOrbits w (of k) s .reflexive a (memPresent w a ∙ j .first)) (rw (← e) at (j .apart))
 
 pub commandWords :
-    (w : Table) (c : Command) → holdsHypermap w ≡ true → commandRefusal w c ≡ 0 → differing w (commandOn w c) ≡ 4
+    (w : Table) (c : Command) → holdsHypermap w ≡ true → commandRefusal w c ≡ 0 → differing w (commandOn w c) ≡ wordsPerChange
 commandWords w (puts x) s e = putWords w s x (putPassed w x e)
 commandWords w (takesOut x) s e = takeOutWords w s x (takeOutPassed w x e)
 commandWords w (joins k a b) s e =

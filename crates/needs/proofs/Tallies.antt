@@ -7,11 +7,11 @@ use native.Mathlib.Omega.{arith}
 use lib.ListN.{length, take, drop}
 use borrow.Author.Tests.{eq-eqb, ne-eqb}
 use borrow.Rule.Slice.PartAt.{part-to-end}
-use Rattle.table.specs.Layout.{wordsPerDart}
+use Rattle.table.specs.Limits.{wordsPerChange, maxTape}
 use Rattle.table.specs.Commands.{puts, takesOut, joins, cuts}
 use Rattle.tape.specs.Steps.{TapeCommand, changes, reports, cutsRing}
 use Rattle.tape.specs.Tapes.{commandOf, readRefusal, restOf, contentsOf}
-use Rattle.tape.specs.Inner.{meaning, numberOf, Reads}
+use Rattle.tape.specs.Inner.{meaning, refusalIn, Reads}
 use Rattle.tape.specs.declared.Instruction.{Instruction}
 use Rattle.tape.specs.declared.Reading.{Reading}
 use Rattle.tape.specs.declared.Reading.the-variants.{Whole, Refused}
@@ -38,7 +38,7 @@ counted t cs = record {
   capacity = larger (t .capacity) (greatest (namedIn cs));
   commands = t .commands + length cs;
   peak = t .peak + (peakOf cs - t .below);
-  words = wordsPerDart * (t .changes + total changesBy cs);
+  words = wordsPerChange * (t .changes + total changesBy cs);
 }
 
 -- no command is both, and none puts more than one dart
@@ -101,7 +101,7 @@ countingFirst tape = record {
 }
 
 module _ (tape rest : List ℕ) (t : Tally) (h : Counting tape rest t) where
-  pub countingFits : length tape ≤ 65536 → Countable t
+  pub countingFits : length tape ≤ maxTape → Countable t
   countingFits l =
       let n = h .commands in
       record {
@@ -118,7 +118,7 @@ module _ (tape rest : List ℕ) (t : Tally) (h : Counting tape rest t) where
         capacity = t .capacity;
         commands = t .commands;
         peak = t .peak;
-        words = 4 * t .changes;
+        words = wordsPerChange * t .changes;
       })
       (neededBy (contentsOf tape))
   unfolding neededBy namedIn greatest peakOf total
@@ -133,7 +133,7 @@ module _ (tape rest : List ℕ) (t : Tally) (h : Counting tape rest t) where
 
   -- the decoder reads r
   module _ (some : 0 < length rest) (r : Reading) (a : Reads rest r) where
-    pub countingRefused : (n m : ℕ) → r ≡ Refused n → m ≡ numberOf r → refusedNeeds m ≡ neededBy (contentsOf tape)
+    pub countingRefused : (n m : ℕ) → r ≡ Refused n → m ≡ refusalIn r → refusedNeeds m ≡ neededBy (contentsOf tape)
     unfolding neededBy
     countingRefused n m b e =
         let q : Reads rest (Refused n) = rw b at a in

@@ -5,8 +5,8 @@ use mathlib.Core.List.{List, [], _∷_, _++_}
 use Prim.Native.Nat.{ℕ, _+_, _*_, _-_}
 use lib.Dec.{ltb, eqb}
 use lib.ListN.{length}
-use Rattle.table.specs.Layout.{wordsPerDart}
-use Rattle.table.specs.Commands.{puts, takesOut, joins, cuts}
+use Rattle.table.specs.Limits.{wordsPerChange}
+use Rattle.table.specs.Commands.{puts, takesOut, joins, cuts, named}
 use Rattle.rings.specs.Rings.{linksOf}
 use Rattle.tape.specs.Steps.{TapeCommand, changes, reports, cutsRing}
 use Rattle.tape.specs.Tapes.{Contents}
@@ -14,10 +14,7 @@ use Rattle.needs.specs.declared.Needs.{Needs}
 
 -- THE LEAST CAPACITY: the greatest number of a dart that any command names; 0 is no dart's number
 abbrev pub namedBy : TapeCommand → List ℕ
-namedBy (changes (puts x)) = x ∷ []
-namedBy (changes (takesOut x)) = x ∷ []
-namedBy (changes (joins k a b)) = a ∷ b ∷ []
-namedBy (changes (cuts k a b)) = a ∷ b ∷ []
+namedBy (changes c) = named c
 namedBy reports = []
 namedBy (cutsRing ws) = ws
 
@@ -54,7 +51,7 @@ unfoldable pub peakOf : List TapeCommand → ℕ
 peakOf [] = 0
 peakOf (c ∷ cs) = putsBy c + peakOf cs - takeOutsBy c
 
--- WORDS: four for each put, take-out, join, cut and double-link
+-- WORDS: as many for each put, take-out, join, cut and double-link
 abbrev pub changesBy : TapeCommand → ℕ
 changesBy (changes c) = 1
 changesBy reports = 0
@@ -65,7 +62,7 @@ total f [] = 0
 total f (c ∷ cs) = f c + total f cs
 
 -- ALL OF THEM, for a tape that can be read; else what stops the reading, and zeros
-abbrev pub refusedNeeds : (number : ℕ) → Needs
+abbrev pub refusedNeeds : (refusal : ℕ) → Needs
 refusedNeeds n = record { number = n; capacity = 0; commands = 0; peak = 0; words = 0 }
 
 abbrev pub needsOf : List TapeCommand → Needs
@@ -74,7 +71,7 @@ needsOf cs = record {
   capacity = greatest (namedIn cs);
   commands = length cs;
   peak = peakOf cs;
-  words = wordsPerDart * total changesBy cs;
+  words = wordsPerChange * total changesBy cs;
 }
 
 unfoldable pub neededBy : Contents → Needs

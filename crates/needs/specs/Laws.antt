@@ -10,7 +10,8 @@ use lib.ListN.{length, getD, take}
 use Rattle.hypermap.specs.Lists.{among, keep}
 use Rattle.hypermap.specs.Hypermap.{edge}
 use Rattle.hypermap.specs.Ring.{DoubleLink}
-use Rattle.table.specs.Layout.{Table, wordsPerDart, capacity, upFrom, isNumber, holdsHypermap, hypermapOf}
+use Rattle.table.specs.Limits.{wordsPerChange}
+use Rattle.table.specs.Layout.{Table, capacity, upFrom, isNumber, holdsHypermap, hypermapOf}
 use Rattle.table.specs.Commands.{commandOn, swapped}
 use Rattle.rings.specs.Rings.{linksOf}
 use Rattle.tape.specs.Steps.{TapeCommand, changes, reports, cutsRing, stepOn}
@@ -72,4 +73,4 @@ changedOn w (c ∷ cs) = changedBy w c + changedOn (stepOn w c) cs
 abbrev pub WordsLaw : Type 0
 WordsLaw =
     (w : Table) (cs : List TapeCommand) → holdsHypermap w ≡ true → AllAccepted w cs →
-    changedOn w cs ≡ wordsPerDart * total changesBy cs
+    changedOn w cs ≡ wordsPerChange * total changesBy cs

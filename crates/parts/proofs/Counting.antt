@@ -11,6 +11,7 @@ use lib.Seq.{length-take-le}
 use Rattle.hypermap.specs.Lists.{keep, sumOf}
 use Rattle.hypermap.proofs.Basics.Bools.{byCases}
 use Rattle.hypermap.proofs.Basics.Sums.{sumOnes}
+use Rattle.table.specs.Limits.{maxCapacity}
 use Rattle.table.specs.Layout.{upFrom}
 
 -- of the numbers from 1 to n that pass p, what f gives is added up below x
@@ -74,5 +75,5 @@ keepBoth p q [] = refl
 keepBoth p q (x ∷ xs) = byCases (p x) (λ t. rw (t, keepBoth p q xs)) (λ t. rw t (keepBoth p q xs))
 
 -- a part of a local array
-pub zerosLength : (n : ℕ) → n ≤ 4096 → length {A = ℕ} (take n (replicate 4096 0)) ≡ n
-zerosLength n h = length-take-le n (replicate 4096 0) h
+pub zerosLength : (n : ℕ) → n ≤ maxCapacity → length {A = ℕ} (take n (replicate maxCapacity 0)) ≡ n
+zerosLength n h = length-take-le n (replicate maxCapacity 0) h

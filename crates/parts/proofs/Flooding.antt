@@ -22,6 +22,7 @@ use Rattle.hypermap.proofs.Permutations.Reaching.{ride}
 use Rattle.hypermap.proofs.Hypermaps.Restricting.{restrictExt, closedOrbit, componentClosed}
 use Rattle.hypermap.proofs.Laws.Components.{componentLaw}
 use Rattle.hypermap.proofs.Laws.Orbits.{orbitLaw}
+use Rattle.table.specs.Limits.{maxCapacity}
 use Rattle.table.specs.Layout.{Table, capacity, isPresent, holdsHypermap, hypermapOf}
 use Rattle.table.specs.Inner.{HypermapAt}
 use Rattle.table.proofs.Holding.{low, high, memPresent, tableHypermap, dartsFew}
@@ -282,7 +283,7 @@ module _ (w : Table) (x v : ℕ) (k : HypermapAt w x) (one : 1 ≤ v) where
           }) (omega (arith, e .order)) (rw (e .before head l) (marked f head (h .state) at sameAt zero g e ms))
 
   -- few faces
-  pub countFew : (m : List ℕ) (count : ℕ) → capacity w ≤ 4096 → count ≡ facesEntered w x v m → count ≤ 4096
+  pub countFew : (m : List ℕ) (count : ℕ) → capacity w ≤ maxCapacity → count ≡ facesEntered w x v m → count ≤ maxCapacity
   countFew m count few e =
       omega (
         arith,
@@ -326,7 +327,7 @@ module _ (w : Table) (x v : ℕ) (k : HypermapAt w x) (one : 1 ≤ v) where
     )
 
   -- FROM NO MARKS AT ALL, whether y is reached
-  module _ (n : ℕ) (c : capacity w ≤ n) (few : capacity w ≤ 4096) where
+  module _ (n : ℕ) (c : capacity w ≤ n) (few : capacity w ≤ maxCapacity) where
     noMark : (y : ℕ) → isPresent w y ≡ true → markAt (replicate n 0) y ≡ 0
     noMark y d = getD-replicate n (y - 1) 0 0 (omega (arith, low w y d, high w y d))
 

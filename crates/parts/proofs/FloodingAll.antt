@@ -12,11 +12,13 @@ use Rattle.hypermap.specs.Hypermap as theory
 use Rattle.hypermap.specs.Laws.{sumOverComponents}
 use Rattle.hypermap.proofs.Basics.Lists.{keepShorter}
 use Rattle.hypermap.proofs.Laws.ComponentGenus.{componentGenusLaw}
+use Rattle.table.specs.Limits.{maxCapacity}
 use Rattle.table.specs.Layout.{Table, capacity, numbers, isPresent, hypermapOf}
 use Rattle.table.proofs.Holding.{memPresent, tableHypermap, dartsFew}
 use Rattle.table.proofs.Zeros.{zeroAt}
 use Rattle.parts.specs.Counts as reports
-use Rattle.parts.specs.Inner.{markAt, isFresh, Skipped, WithinCapacity, PartMarked}
+use Rattle.table.specs.Inner.{WithinCapacity}
+use Rattle.parts.specs.Inner.{markAt, isFresh, Skipped, PartMarked}
 use Rattle.parts.proofs.Counting.{Summing, summingNone, summingYes, summingNo, summingAll, keepBoth}
 use Rattle.parts.proofs.Marking.{freshNot, Sweep, Pass, Passed, passedNone, isFirst, passedFresh, passedOther}
 use Rattle.parts.proofs.Marking.{passedCount, passedInside}
@@ -31,7 +33,7 @@ allSweep w = record {
   before = λ x. 0;
   after = λ x. 1;
   fresh = λ x v. isPresent w x && eqb v 0;
-  size = 4096;
+  size = maxCapacity;
 }
 
 -- a number of each component, added up at the smallest darts
@@ -56,10 +58,10 @@ module _ (w : Table) (k : WithinCapacity w) where
     others = λ x l t. rw t;
   }
 
-  pub allNone : (m : List ℕ) → m ≡ replicate 4096 0 → FloodingAll w 1 0 0 0 m
+  pub allNone : (m : List ℕ) → m ≡ replicate maxCapacity 0 → FloodingAll w 1 0 0 0 m
   allNone m e = record {
-    passed = passedNone w (allSweep w) allPass m (rw e (length-replicate {A = ℕ} 4096 0))
-        (λ y l. rw e (zeroAt 4096 (y - 1)));
+    passed = passedNone w (allSweep w) allPass m (rw e (length-replicate {A = ℕ} maxCapacity 0))
+        (λ y l. rw e (zeroAt maxCapacity (y - 1)));
     isLifts = summingNone _ _ _;
     isFaces = summingNone _ _ _;
   }
@@ -90,8 +92,8 @@ module _ (w : Table) (k : WithinCapacity w) where
 
     -- no sum passes the whole
     few :
-        (g : Hypermap → ℕ) (total : ℕ) → AddedUp w g x total → sumOverComponents (hypermapOf w) g ≤ 4096 →
-        total ≤ 4096
+        (g : Hypermap → ℕ) (total : ℕ) → AddedUp w g x total → sumOverComponents (hypermapOf w) g ≤ maxCapacity →
+        total ≤ maxCapacity
     few g total a b =
         omega (
           arith,
@@ -107,7 +109,7 @@ module _ (w : Table) (k : WithinCapacity w) where
     faced : sumOverComponents (hypermapOf w) theory.faces ≡ theory.faces (hypermapOf w)
     faced = componentGenusLaw (hypermapOf w) (tableHypermap w (k .hypermap)) .1 .orbits face
 
-    pub allFew : (l ≤ 4096) × (f ≤ 4096)
+    pub allFew : (l ≤ maxCapacity) × (f ≤ maxCapacity)
     allFew = (
       few reports.lifts l (i .isLifts) (omega (
         arith,
@@ -143,10 +145,10 @@ module _ (w : Table) (k : WithinCapacity w) where
         whole theory.faces f (i .isFaces) ∙ faced,
       )
 
-      pub allPartMarked : PartMarked (hypermapOf w .darts) 1 (replicate 4096 0) m
+      pub allPartMarked : PartMarked (hypermapOf w .darts) 1 (replicate maxCapacity 0) m
       allPartMarked = record {
         inside = λ y t. passedInside w (allSweep w) allPass x c m (i .passed) h y (rw memPresent at t);
-        outside = λ y o t. i .passed .outside y o (rw memPresent at t) ∙ sym (zeroAt 4096 (y - 1));
+        outside = λ y o t. i .passed .outside y o (rw memPresent at t) ∙ sym (zeroAt maxCapacity (y - 1));
       }
 
   -- marked numbers are passed over

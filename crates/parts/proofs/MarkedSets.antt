@@ -18,6 +18,7 @@ use Rattle.hypermap.proofs.Hypermaps.Totals.{links}
 use Rattle.hypermap.proofs.Hypermaps.Restricting.{restrictExt, restrictAll, orbitRestrict, restrictHypermap}
 use Rattle.hypermap.proofs.Hypermaps.Restricting.{closedExt, closedOrbit, componentClosed}
 use Rattle.hypermap.proofs.Laws.Components.{componentLaw}
+use Rattle.table.specs.Limits.{maxCapacity}
 use Rattle.table.specs.Layout.{Table, capacity, numbers, isPresent, holdsHypermap, hypermapOf}
 use Rattle.table.proofs.Holding.{low, memPresent, tableHypermap, dartsFew}
 use Rattle.table.proofs.Zeros.{zeroAt}
@@ -31,7 +32,7 @@ dartOne w x d = low w x (rw memPresent at d)
 
 -- PAINTED on zeros: the darts of a closed part
 module _
-    (w : Table) (s : holdsHypermap w ≡ true) (n : ℕ) (room : capacity w ≤ 4096) (size : capacity w ≤ n) (part : List ℕ)
+    (w : Table) (s : holdsHypermap w ≡ true) (n : ℕ) (room : capacity w ≤ maxCapacity) (size : capacity w ≤ n) (part : List ℕ)
     (v : ℕ) (one : 1 ≤ v) (m : List ℕ) (long : length m ≡ n) (q : PartMarked part v (replicate n 0) m) where
   partMarkedTest : (y : ℕ) → 1 ≤ y → isMarked m v y ≡ among y part
   partMarkedTest y l =
@@ -58,7 +59,7 @@ module _
 
 -- all darts, and one component
 module _
-    (w : Table) (s : holdsHypermap w ≡ true) (room : capacity w ≤ 4096) (n : ℕ) (size : capacity w ≤ n) (m : List ℕ)
+    (w : Table) (s : holdsHypermap w ≡ true) (room : capacity w ≤ maxCapacity) (n : ℕ) (size : capacity w ≤ n) (m : List ℕ)
     (long : length m ≡ n) where
   wfTable : isHypermap (hypermapOf w) ≡ true
   wfTable = tableHypermap w s
@@ -118,7 +119,7 @@ module _ (w : Table) (m : List ℕ) (v : ℕ) (k : MarkedSet w m v) where
   pub markedHypermap : isHypermap (markedIn w m v) ≡ true
   markedHypermap = restrictHypermap (hypermapOf w) wf (isMarked m v) (k .closed)
 
-  pub markedFew : length (markedIn w m v .darts) ≤ 4096
+  pub markedFew : length (markedIn w m v .darts) ≤ maxCapacity
   markedFew = omega (arith, keepShorter (isMarked m v) (hypermapOf w .darts), dartsFew w, k .room .room)
 
   pub inSetTest : (y : ℕ) → 1 ≤ y → inSet w m v y ≡ isMarked m v y

@@ -9,6 +9,7 @@ use Rattle.hypermap.specs.Hypermap.{edge, vertex, Hypermap, isHypermap, Kind, o
 use Rattle.hypermap.specs.Hypermap.{isLeastIn, orbits, edges, vertices, faces, components, characteristic, genus}
 use Rattle.hypermap.proofs.Basics.Lists.{keepShorter}
 use Rattle.hypermap.proofs.Laws.GenusTheorem.{eulerEquation, genusTheorem}
+use Rattle.table.specs.Limits.{maxCapacity}
 use Rattle.parts.specs.Counts.{lifts, countsOf}
 use Rattle.parts.specs.Inner.{Few, HasGenus}
 use Rattle.parts.specs.declared.Counts.{Counts}
@@ -21,11 +22,11 @@ pub record Named (m : Hypermap) (d e v f : ℕ) : Type 0 where
   pub isVertices : v ≡ vertices m
   pub isFaces : f ≡ faces m
 
-module _ (m : Hypermap) (wf : isHypermap m ≡ true) (few : length (m .darts) ≤ 4096) where
-  orbitsFew : (c : Kind) → orbits m c ≤ 4096
+module _ (m : Hypermap) (wf : isHypermap m ≡ true) (few : length (m .darts) ≤ maxCapacity) where
+  orbitsFew : (c : Kind) → orbits m c ≤ maxCapacity
   orbitsFew c = omega (arith, keepShorter (isLeastIn (orbitOf m c)) (m .darts))
 
-  componentsFew : components m ≤ 4096
+  componentsFew : components m ≤ maxCapacity
   componentsFew = omega (arith, keepShorter (isLeastIn (componentOf m)) (m .darts))
 
   module _ (d e v f : ℕ) (n : Named m d e v f) where

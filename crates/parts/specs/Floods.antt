@@ -6,6 +6,7 @@ use Prim.Native.Nat.{ℕ, _+_, _≤_, _<_}
 use lib.Dec.{eqb}
 use lib.ListN.{length, getD}
 use Rattle.hypermap.specs.Hypermap.{edge, face, orbitOf, sameFace, sameComponent}
+use Rattle.table.specs.Limits.{maxCapacity}
 use Rattle.table.specs.Layout.{Table, capacity, wordAt, backWord, hypermapOf}
 use Rattle.parts.specs.Inner.{markAt, MarkingAt, PartMarked}
 
@@ -51,7 +52,7 @@ pub record Entered (w : Table) (y value : ℕ) (f g : Front) : Type 0 where
 -- what a flood from x starts with: no mark in its component
 pub record Unmarked (w : Table) (x value : ℕ) (marks queue : List ℕ) : Type 0 where
   pub low : 1 ≤ value
-  pub few : capacity w ≤ 4096
+  pub few : capacity w ≤ maxCapacity
   pub marking : MarkingAt w x marks
   pub room : length marks ≤ length queue
   pub unmarked : (y : ℕ) → sameComponent (hypermapOf w) x y ≡ true → markAt marks y ≡ 0

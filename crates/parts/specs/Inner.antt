@@ -10,35 +10,21 @@ use Rattle.hypermap.specs.Lists.{among}
 use Rattle.hypermap.specs.Hypermap.{edge, Hypermap, of, orbitOf, restrict}
 use Rattle.hypermap.specs.Hypermap as theory
 use Rattle.hypermap.specs.Laws.{Closed}
+use Rattle.table.specs.Limits.{maxCapacity}
 use Rattle.table.specs.Layout.{Table, capacity, wordAt, nextWord, backWord, isPresent, holdsHypermap, hypermapOf}
-use Rattle.table.specs.Inner.{HypermapAt, HypermapAtBoth}
+use Rattle.table.specs.Inner.{HypermapAt}
 use Rattle.parts.specs.Counts as numbers
 use Rattle.parts.specs.declared.Flooded.{Flooded}
 
--- a sound table that the kernel's local arrays have room for
-pub record WithinCapacity (w : Table) : Type 0 where
-  pub hypermap : holdsHypermap w ≡ true
-  pub room : capacity w ≤ 4096
-
--- and a dart of it
-pub record WithinCapacityAt (w : Table) (x : ℕ) : Type 0 where
-  pub at : HypermapAt w x
-  pub room : capacity w ≤ 4096
-
--- and two darts of it
-pub record WithinCapacityAtBoth (w : Table) (a b : ℕ) : Type 0 where
-  pub both : HypermapAtBoth w a b
-  pub room : capacity w ≤ 4096
-
--- and a mark for each number
+-- a table within the capacity, and a mark for each number
 pub record Marking (w : Table) (marks : List ℕ) : Type 0 where
   pub hypermap : holdsHypermap w ≡ true
-  pub room : capacity w ≤ 4096
+  pub room : capacity w ≤ maxCapacity
   pub size : length marks ≡ capacity w
 
 -- at least a mark for each number
 pub record HasMarks (w : Table) (marks : List ℕ) : Type 0 where
-  pub room : capacity w ≤ 4096
+  pub room : capacity w ≤ maxCapacity
   pub size : capacity w ≤ length marks
 
 -- MARKS: that of x
@@ -57,7 +43,7 @@ isFresh w m x = isPresent w x && eqb (markAt m x) 0
 pub record HasFour (marks : List ℕ) (x : ℕ) : Type 0 where
   pub low : 1 ≤ x
   pub high : x + 3 ≤ length marks
-  pub few : x ≤ 4096
+  pub few : x ≤ maxCapacity
 
 abbrev pub fourMarked : (marks : List ℕ) → (x : ℕ) → Bool
 fourMarked m x =
@@ -69,14 +55,14 @@ pub record Skipping (marks : List ℕ) (x n : ℕ) : Type 0 where
   pub low : 1 ≤ x
   pub high : x ≤ n + 1
   pub room : n ≤ length marks
-  pub few : n ≤ 4096
+  pub few : n ≤ maxCapacity
 
 pub record Skipped (marks : List ℕ) (x n to : ℕ) : Type 0 where
   pub from : x ≤ to
   pub high : to ≤ n + 1
   pub marked : (y : ℕ) → x ≤ y → y < to → markAt marks y ≡ 0 → ⊥
 
--- a dart of a sound table, and marks for all darts
+-- a dart of a table that holds a hypermap, and marks for all darts
 pub record MarkingAt (w : Table) (x : ℕ) (marks : List ℕ) : Type 0 where
   pub at : HypermapAt w x
   pub size : capacity w ≤ length marks
@@ -131,14 +117,14 @@ pub record MarkedParts (w : Table) (marks : List ℕ) (components lifts faces : 
 
 -- COUNTS that an i32 has room for
 pub record Few (d e v f : ℕ) : Type 0 where
-  pub darts : d ≤ 4096
-  pub edges : e ≤ 4096
-  pub vertices : v ≤ 4096
-  pub faces : f ≤ 4096
+  pub darts : d ≤ maxCapacity
+  pub edges : e ≤ maxCapacity
+  pub vertices : v ≤ maxCapacity
+  pub faces : f ≤ maxCapacity
 
 -- Euler's equation has a solution, which is the genus
 pub record HasGenus (components : ℕ) (characteristic : ℤ) : Type 0 where
-  pub few : components ≤ 4096
+  pub few : components ≤ maxCapacity
   pub genus : ℕ
-  pub small : genus ≤ 8192
+  pub small : genus ≤ 2 * maxCapacity
   pub euler : characteristic +ℤ pos (2 * genus) ≡ pos (2 * components)

@@ -5,10 +5,11 @@ ghost use Prim.Native.Nat.{_+_, _*_, _<_};
 ghost use lib.IntN.{pos, _+ℤ_, _-ℤ_};
 ghost use lib.ListN.{length, replicate};
 ghost use Rattle.hypermap.specs.Hypermap.{orbits, componentAt};
+ghost use Rattle.table.specs.Limits.{maxCapacity, maxWord};
 ghost use Rattle.table.specs.Layout.{hypermapOf};
-ghost use Rattle.table.specs.Inner.{kindOf};
+ghost use Rattle.table.specs.Inner.{kindOf, WithinCapacity, WithinCapacityAt};
 ghost use Rattle.parts.specs.Counts.{lifts, countsOf};
-ghost use Rattle.parts.specs.Inner.{WithinCapacity, WithinCapacityAt, Few, HasGenus, PartMarked, MarkedSet, markedIn, Raised};
+ghost use Rattle.parts.specs.Inner.{Few, HasGenus, PartMarked, MarkedSet, markedIn, Raised};
 ghost use Rattle.parts.specs.Inner.{MarkedParts, floodedOf};
 use crate::Counts;
 use crate::Flooded;
@@ -20,6 +21,8 @@ use crate::marks::mark_orbit;
 use crate::marks::skip_marked;
 use table::Orbit;
 use table::changes;
+use table::limits::EDGE_NEXT;
+use table::limits::MAX_CAPACITY;
 use table::words;
 
 pub fn count_darts(table: &[u16]) -> u32
@@ -29,8 +32,8 @@ pub fn count_darts(table: &[u16]) -> u32
     let n = words::capacity_of(table);
     let mut count: u32 = 0;
     let mut x: u16 = 1;
-    while words::wide(x) <= n {
-        if 0 < words::word(table, x, 0) {
+    while words::to_usize(x) <= n {
+        if 0 < words::word(table, x, EDGE_NEXT) {
             count += 1;
         }
         x += 1;
@@ -68,14 +71,14 @@ pub fn count_marked(table: &[u16], marks: &[u16], value: u16) -> u32
 
 // The orbits of the darts that are marked with value, and marked with the next number afterwards.
 pub fn count_orbits(table: &[u16], orbit: Orbit, marks: &mut [u16], value: u16) -> u32
-    requires { ⌜ MarkedSet (now table) (now marks) value × (value < 65535) ⌝ }
+    requires { ⌜ MarkedSet (now table) (now marks) value × (value < maxWord) ⌝ }
     ensures { λ r. ⌜ r ≡ orbits (markedIn (now (table .entry)) (now (marks .entry)) value) (kindOf orbit) ⌝ }
     ensures marks { λ _. ⌜ Raised value (now (marks .entry)) (now (marks .exit)) ⌝ }
 {
     let n = words::capacity_of(table);
     let mut count: u32 = 0;
     let mut x: u16 = 1;
-    while words::wide(x) <= n {
+    while words::to_usize(x) <= n {
         if mark_of(marks, x) == value {
             mark_orbit(table, orbit, x, value + 1, marks);
             count += 1;
@@ -133,18 +136,18 @@ pub fn marked_counts(
 
 // Writes 1 at each dart, flooding one component after another. Behind a flood most numbers are marked.
 pub fn flood_all(table: &[u16], marks: &mut [u16]) -> Flooded
-    requires { ⌜ WithinCapacity (now table) × (now marks ≡ replicate 4096 0) ⌝ }
+    requires { ⌜ WithinCapacity (now table) × (now marks ≡ replicate maxCapacity 0) ⌝ }
     ensures { λ r. ⌜ r ≡ floodedOf (hypermapOf (now (table .entry))) ⌝ }
     ensures marks { λ _. ⌜ PartMarked (hypermapOf (now (table .entry)) .darts) 1
         (now (marks .entry)) (now (marks .exit)) ⌝ }
 {
-    let mut queue = [0u16; 4096];
+    let mut queue = [0u16; MAX_CAPACITY];
     let n = words::capacity_of(table);
     let mut components: u32 = 0;
     let mut lifts: u32 = 0;
     let mut faces: u32 = 0;
     let mut x: u16 = 1;
-    while words::wide(x) <= n {
+    while words::to_usize(x) <= n {
         let mut next = x + 1;
         if is_fresh(table, marks, x) {
             faces += flood(table, x, 1, marks, &mut queue);
@@ -166,7 +169,7 @@ pub fn counts(table: &[u16]) -> Counts
     requires { ⌜ WithinCapacity (now table) ⌝ }
     ensures { λ r. ⌜ r ≡ countsOf (hypermapOf (now (table .entry))) ⌝ }
 {
-    let mut marks = [0u16; 4096];
+    let mut marks = [0u16; MAX_CAPACITY];
     let found = flood_all(table, &mut marks);
     marked_counts(
         table,
@@ -183,8 +186,8 @@ pub fn component_counts(table: &[u16], x: u16) -> Counts
     ensures { λ r. ⌜ r ≡ countsOf (componentAt (hypermapOf (now (table .entry))) x) ⌝ }
 {
     let lifts = component_lifts(table, x);
-    let mut marks = [0u16; 4096];
-    let mut queue = [0u16; 4096];
+    let mut marks = [0u16; MAX_CAPACITY];
+    let mut queue = [0u16; MAX_CAPACITY];
     let faces = flood(table, x, 1, &mut marks, &mut queue);
     marked_counts(table, &mut marks, 1, lifts, faces)
 }

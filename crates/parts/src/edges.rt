@@ -5,10 +5,13 @@ ghost use mathlib.Core.Bool.{cond};
 ghost use Prim.Native.Nat.{_<_};
 ghost use lib.Dec.{leb};
 ghost use Rattle.hypermap.specs.Hypermap.{edges};
+ghost use Rattle.table.specs.Limits.{maxWord};
 ghost use Rattle.parts.specs.Inner.{MarkingAt, MarkedSet, markedIn, isTallied, EdgeLeft};
 use crate::marks::mark_of;
 use crate::marks::mark_orbit;
 use table::Orbit;
+use table::limits::EDGE_BACK;
+use table::limits::EDGE_NEXT;
 use table::words;
 
 // 1 if x is not greater than y, else 0.
@@ -24,8 +27,8 @@ fn tally(table: &[u16], marks: &mut [u16], x: u16, value: u16) -> u32
     ensures { λ r. ⌜ r ≡ cond (isTallied (now (table .entry)) x) 1 0 ⌝ }
     ensures marks { λ _. ⌜ EdgeLeft (now (table .entry)) x value (now (marks .entry)) (now (marks .exit)) ⌝ }
 {
-    let y = words::word(table, x, 0);
-    if words::word(table, x, 1) == y {
+    let y = words::word(table, x, EDGE_NEXT);
+    if words::word(table, x, EDGE_BACK) == y {
         return one_if_least(x, y);
     }
     mark_orbit(table, Orbit::Edge, x, value, marks);
@@ -34,13 +37,13 @@ fn tally(table: &[u16], marks: &mut [u16], x: u16, value: u16) -> u32
 
 // The edges of the darts that are marked with value; the darts of longer ones have the next number afterwards.
 pub fn count_edges(table: &[u16], marks: &mut [u16], value: u16) -> u32
-    requires { ⌜ MarkedSet (now table) (now marks) value × (value < 65535) ⌝ }
+    requires { ⌜ MarkedSet (now table) (now marks) value × (value < maxWord) ⌝ }
     ensures { λ r. ⌜ r ≡ edges (markedIn (now (table .entry)) (now (marks .entry)) value) ⌝ }
 {
     let n = words::capacity_of(table);
     let mut count: u32 = 0;
     let mut x: u16 = 1;
-    while words::wide(x) <= n {
+    while words::to_usize(x) <= n {
         if mark_of(marks, x) == value {
             count += tally(table, marks, x, value + 1);
         }

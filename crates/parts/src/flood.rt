@@ -5,12 +5,16 @@ ghost use mathlib.Core.Path.{_≡_};
 ghost use Rattle.hypermap.specs.Hypermap.{componentOf, componentAt, components, faces, sameComponent};
 ghost use Rattle.table.specs.Layout.{hypermapOf};
 ghost use Rattle.parts.specs.Marks.{componentMarks};
-ghost use Rattle.parts.specs.Inner.{WithinCapacityAtBoth, Marking, PartMarked};
+ghost use Rattle.table.specs.Inner.{WithinCapacityAtBoth};
+ghost use Rattle.parts.specs.Inner.{Marking, PartMarked};
 ghost use Rattle.parts.specs.Floods.{front, Entering, Entered, Unmarked};
 use crate::marks::clear;
 use crate::marks::is_fresh;
 use crate::marks::mark_dart;
 use crate::marks::mark_of;
+use table::limits::EDGE_BACK;
+use table::limits::MAX_CAPACITY;
+use table::limits::VERTEX_BACK;
 use table::words;
 
 // Writes value at each dart of the face of y, and its edge predecessor into the queue.
@@ -30,10 +34,10 @@ pub fn enter(
     let mut end = tail;
     loop {
         mark_dart(marks, at, value);
-        let back = words::word(table, at, 1);
+        let back = words::word(table, at, EDGE_BACK);
         queue[end] = back;
         end += 1;
-        at = words::word(table, back, 3);
+        at = words::word(table, back, VERTEX_BACK);
         if at == y {
             return end;
         }
@@ -67,12 +71,12 @@ pub fn mark_components(table: &[u16], marks: &mut [u16]) -> u32
     ensures { λ r. ⌜ r ≡ components (hypermapOf (now (table .entry))) ⌝ }
     ensures marks { λ _. ⌜ now (marks .exit) ≡ componentMarks (now (table .entry)) ⌝ }
 {
-    let mut queue = [0u16; 4096];
+    let mut queue = [0u16; MAX_CAPACITY];
     clear(marks);
     let n = words::capacity_of(table);
     let mut count: u32 = 0;
     let mut x: u16 = 1;
-    while words::wide(x) <= n {
+    while words::to_usize(x) <= n {
         if is_fresh(table, marks, x) {
             flood(table, x, x, marks, &mut queue);
             count += 1;
@@ -87,8 +91,8 @@ pub fn same_component(table: &[u16], a: u16, b: u16) -> bool
     requires { ⌜ WithinCapacityAtBoth (now table) a b ⌝ }
     ensures { λ r. ⌜ r ≡ sameComponent (hypermapOf (now (table .entry))) a b ⌝ }
 {
-    let mut marks = [0u16; 4096];
-    let mut queue = [0u16; 4096];
+    let mut marks = [0u16; MAX_CAPACITY];
+    let mut queue = [0u16; MAX_CAPACITY];
     flood(table, a, 1, &mut marks, &mut queue);
     mark_of(&marks, b) == 1
 }

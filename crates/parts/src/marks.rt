@@ -10,6 +10,7 @@ ghost use Rattle.parts.specs.Marks.{orbitMarks};
 ghost use Rattle.parts.specs.Inner.{Marking, MarkingAt, HasMark, markAt, isFresh, PartMarked, HasFour, fourMarked};
 ghost use Rattle.parts.specs.Inner.{Skipping, Skipped};
 use table::Orbit;
+use table::limits::EDGE_NEXT;
 use table::walk;
 use table::words;
 
@@ -17,7 +18,7 @@ pub fn mark_of(marks: &[u16], x: u16) -> u16
     requires { ⌜ HasMark (now marks) x ⌝ }
     ensures { λ r. ⌜ r ≡ markAt (now (marks .entry)) x ⌝ }
 {
-    let at = words::wide(x) - 1;
+    let at = words::to_usize(x) - 1;
     marks[at]
 }
 
@@ -25,7 +26,7 @@ pub fn mark_dart(marks: &mut [u16], x: u16, value: u16)
     requires { ⌜ HasMark (now marks) x ⌝ }
     ensures { λ _. ⌜ now (marks .exit) ≡ set (now (marks .entry)) (x - 1) value ⌝ }
 {
-    let at = words::wide(x) - 1;
+    let at = words::to_usize(x) - 1;
     marks[at] = value;
 }
 
@@ -49,7 +50,7 @@ pub fn is_fresh(table: &[u16], marks: &[u16], x: u16) -> bool
     if mark_of(marks, x) != 0 {
         return false;
     }
-    0 < words::word(table, x, 0)
+    0 < words::word(table, x, EDGE_NEXT)
 }
 
 // Whether x and the three numbers behind it have marks.
@@ -69,7 +70,7 @@ pub fn skip_marked(marks: &[u16], x: u16, n: usize) -> u16
     ensures { λ r. ⌜ Skipped (now (marks .entry)) x n r ⌝ }
 {
     let mut at = x;
-    while words::wide(at) + 3 <= n {
+    while words::to_usize(at) + 3 <= n {
         if are_marked(marks, at) {
             at += 4;
         } else {
@@ -105,7 +106,7 @@ pub fn mark_orbits(table: &[u16], orbit: Orbit, marks: &mut [u16]) -> u32
     let n = words::capacity_of(table);
     let mut count: u32 = 0;
     let mut x: u16 = 1;
-    while words::wide(x) <= n {
+    while words::to_usize(x) <= n {
         if is_fresh(table, marks, x) {
             mark_orbit(table, orbit, x, x, marks);
             count += 1;

@@ -1,7 +1,7 @@
 // Whether two darts share a part.
 ghost use mathlib.Core.Path.{_≡_};
 ghost use Rattle.parts.specs.Sharing.{isSame};
-ghost use Rattle.parts.specs.Inner.{WithinCapacityAtBoth};
+ghost use Rattle.table.specs.Inner.{WithinCapacityAtBoth};
 use crate::Part;
 use crate::flood;
 use table::Dimension;

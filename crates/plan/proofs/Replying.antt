@@ -5,7 +5,7 @@ use mathlib.Core.List.{List}
 use Prim.Native.Nat.{ℕ}
 use lib.ListN.{length}
 use Rattle.table.specs.Layout.{Table}
-use Rattle.parts.specs.Inner.{WithinCapacity}
+use Rattle.table.specs.Inner.{WithinCapacity}
 use Rattle.tape.specs.Steps.{stepLeaves}
 use Rattle.tape.specs.Inner.{meaning}
 use Rattle.tape.specs.declared.Instruction.{Instruction}

@@ -1,8 +1,11 @@
 // Plays standard input on an empty table of 4,096 darts and writes a line for each command: `ok`, the report of 07, or
 // `refused` and the number, and then it ends. Document 01, "Plans to check".
-ghost use Rattle.parts.specs.Inner.{WithinCapacity};
+ghost use Rattle.table.specs.Inner.{WithinCapacity};
 use libc::STDIN_FILENO;
 use parts::count;
+use table::limits::MAX_TAPE;
+use table::limits::MAX_WORDS;
+use table::refusals;
 use tape::Instruction;
 use tape::Reading;
 use tape::decode;
@@ -11,8 +14,8 @@ use tape::step;
 
 mod text;
 
-// Bytes that a tape may have.
-const MAX_TAPE: usize = 65536;
+// One byte more than a tape may have, so that a longer one shows.
+const READ_BYTES: usize = MAX_TAPE + 1;
 
 // The line of an accepted command.
 fn write_accepted(table: &[u16], instruction: Instruction, out: &mut [u8], at: usize) -> usize
@@ -24,7 +27,7 @@ fn write_accepted(table: &[u16], instruction: Instruction, out: &mut [u8], at: u
     }
 }
 
-// The inner step keeps the table sound, so soundness is not judged again for each command.
+// The inner step keeps the table within the capacity, so the table is not judged again for each command.
 fn run(table: &mut [u16], tape: &[u8], out: &mut [u8])
     requires { ⌜ WithinCapacity (now table) ⌝ }
 {
@@ -34,10 +37,10 @@ fn run(table: &mut [u16], tape: &[u8], out: &mut [u8])
     while 0 < rest.len() {
         let reading = decode::read(rest, &operand_bytes);
         let Reading::Whole(instruction, size) = reading else {
-            text::end_refused(out, at, decode::number_of(reading));
+            text::end_refused(out, at, decode::refusal_in(reading));
             return;
         };
-        let refusal = step::perform(table, rest, instruction);
+        let refusal = step::take_step(table, rest, instruction);
         if refusal != 0 {
             text::end_refused(out, at, refusal);
             return;
@@ -50,13 +53,13 @@ fn run(table: &mut [u16], tape: &[u8], out: &mut [u8])
 }
 
 fn main() {
-    let mut tape = [0u8; 65537];
-    let mut out = [0u8; 65536];
+    let mut tape = [0u8; READ_BYTES];
+    let mut out = [0u8; text::OUT_BYTES];
     let n = io::read_full(STDIN_FILENO, &mut tape);
     if MAX_TAPE < n {
-        text::end_refused(&mut out, 0, table::refusals::WRONG_SIZE);
+        text::end_refused(&mut out, 0, refusals::WRONG_SIZE);
         return;
     }
-    let mut table = [0u16; 16384];
+    let mut table = [0u16; MAX_WORDS];
     run(&mut table, &tape[..n], &mut out);
 }

@@ -4,8 +4,10 @@ use libc::STDOUT_FILENO;
 use parts::Counts;
 use parts::sign::magnitude;
 
-// How full a buffer is allowed to be before the next line.
+// How full a buffer is allowed to be before the next line, and its bytes, with room for the longest line.
 const FULL: usize = 65000;
+
+pub const OUT_BYTES: usize = 65200;
 
 fn write_byte(out: &mut [u8], at: usize, byte: u8) -> usize {
     if at < out.len() {

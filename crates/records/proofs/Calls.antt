@@ -6,20 +6,22 @@ use Prim.Native.Nat.{ℕ, _<_, _%_}
 use lib.Dec.{ltb, eqb}
 use lib.ListN.{length}
 use borrow.Author.Tests.{lt-leb}
+use Rattle.table.specs.Limits.{maxRing}
 use Rattle.table.specs.Refusals.{noList, orElse, unless}
 use Rattle.table.specs.Layout.{Table}
 use Rattle.table.specs.Commands.{leaves}
 use Rattle.rings.specs.Rings.{isList, ringRefusal, cutAlong, linksOf}
-use Rattle.kernel.specs.Calls.{tableRefusal, ringCallRefusal, ringCallLeaves}
+use Rattle.soundness.specs.Soundness.{tableRefusal}
+use Rattle.kernel.specs.Calls.{ringCallRefusal, ringCallLeaves}
 
 never : (a b c : Bool) → c ≡ false → (a && b && c) ≡ false
 never true true c e = e
 never true false c e = refl
 never false b c e = refl
 
-longIsNone : (ws : List ℕ) → 4096 < length ws → isList ws ≡ false
+longIsNone : (ws : List ℕ) → maxRing < length ws → isList ws ≡ false
 unfolding isList
-longIsNone ws l = never (ltb 0 (length ws)) (eqb (length ws % 2) 0) _ (lt-leb (length ws) 4096 l)
+longIsNone ws l = never (ltb 0 (length ws)) (eqb (length ws % 2) 0) _ (lt-leb (length ws) maxRing l)
 
 noneIsNone : isList [] ≡ false
 unfolding isList
@@ -43,7 +45,7 @@ refusedLeaves w ws e =
     ap (λ (n : ℕ). leaves n (cutAlong (linksOf ws) w) w) (refused w ws e) ∙ unchanged (tableRefusal w) _ w
 
 pub longAsNone :
-    (w : Table) (ws : List ℕ) → 4096 < length ws →
+    (w : Table) (ws : List ℕ) → maxRing < length ws →
     (ringCallRefusal w ws ≡ ringCallRefusal w []) × (ringCallLeaves w ws ≡ ringCallLeaves w [])
 longAsNone w ws l = (
   refused w ws (longIsNone ws l) ∙ sym (refused w [] noneIsNone),

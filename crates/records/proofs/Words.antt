@@ -8,19 +8,20 @@ use native.Mathlib.Omega.{arith}
 use lib.Dec.{T, ltb, ltb→lt, nltb→le}
 use lib.ListN.{length, getD, take, set, length-set}
 use lib.Seq.{take-suc, take-suc-set, take-length}
+use Rattle.table.specs.Limits.{maxDoubleLinks}
 use Rattle.table.specs.Layout.{Table}
 use Rattle.records.specs.declared.DoubleLink.{DoubleLink}
 use Rattle.kernel.specs.Calls.{ringCallRefusal, ringCallLeaves}
 use Rattle.records.specs.Records.{wordsOf, fitted}
 use Rattle.records.proofs.Calls.{longAsNone}
 
-pub fittedKept : (n : ℕ) → (fitted n ≤ 2048) × (fitted n ≤ n)
+pub fittedKept : (n : ℕ) → (fitted n ≤ maxDoubleLinks) × (fitted n ≤ n)
 unfolding fitted
-fittedKept n = kept (ltb 2048 n) refl
+fittedKept n = kept (ltb maxDoubleLinks n) refl
   where
-    kept : (t : Bool) → ltb 2048 n ≡ t → (cond t 0 n ≤ 2048) × (cond t 0 n ≤ n)
+    kept : (t : Bool) → ltb maxDoubleLinks n ≡ t → (cond t 0 n ≤ maxDoubleLinks) × (cond t 0 n ≤ n)
     kept true e = (zero-le, zero-le)
-    kept false e = (nltb→le 2048 n (subst (λ (b : Bool). T (not b)) (sym e) tt), le-refl n)
+    kept false e = (nltb→le maxDoubleLinks n (subst (λ (b : Bool). T (not b)) (sym e) tt), le-refl n)
 
 -- what `getD` gives past the end
 abbrev pub noLink : DoubleLink
@@ -82,16 +83,16 @@ pub fittedCalls :
     (ringCallRefusal w (wordsOf (take (fitted (length ls)) ls)) ≡ ringCallRefusal w (wordsOf ls)) ×
     (ringCallLeaves w (wordsOf (take (fitted (length ls)) ls)) ≡ ringCallLeaves w (wordsOf ls))
 unfolding fitted wordsOf
-fittedCalls w ls = calls (ltb 2048 (length ls)) refl
+fittedCalls w ls = calls (ltb maxDoubleLinks (length ls)) refl
   where
     calls :
-        (t : Bool) → ltb 2048 (length ls) ≡ t →
+        (t : Bool) → ltb maxDoubleLinks (length ls) ≡ t →
         (ringCallRefusal w (wordsOf (take (cond t 0 (length ls)) ls)) ≡ ringCallRefusal w (wordsOf ls)) ×
         (ringCallLeaves w (wordsOf (take (cond t 0 (length ls)) ls)) ≡ ringCallLeaves w (wordsOf ls))
     calls true e = (sym (long .0), sym (long .1))
       where
-        many : 2048 < length ls
-        many = ltb→lt 2048 (length ls) (subst T (sym e) tt)
+        many : maxDoubleLinks < length ls
+        many = ltb→lt maxDoubleLinks (length ls) (subst T (sym e) tt)
 
         long :
             (ringCallRefusal w (wordsOf ls) ≡ ringCallRefusal w []) × (ringCallLeaves w (wordsOf ls) ≡ ringCallLeaves w [])

@@ -5,6 +5,7 @@ use mathlib.Core.List.{List, [], _∷_}
 use Prim.Native.Nat.{ℕ, _*_}
 use lib.Dec.{ltb}
 use lib.ListN.{length, take}
+use Rattle.table.specs.Limits.{maxDoubleLinks}
 use Rattle.records.specs.declared.DoubleLink.{DoubleLink}
 
 -- the two darts of each double-link in turn
@@ -14,7 +15,7 @@ wordsOf (l ∷ ls) = l .first ∷ l .second ∷ wordsOf ls
 
 -- how many of n double-links are copied
 unfoldable pub fitted : ℕ → ℕ
-fitted n = cond (ltb 2048 n) 0 n
+fitted n = cond (ltb maxDoubleLinks n) 0 n
 
 -- the words of those that are copied come first
 abbrev pub BeginsWith : (words : List ℕ) → List DoubleLink → Type 0

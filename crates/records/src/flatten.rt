@@ -7,20 +7,22 @@ ghost use Rattle.kernel.specs.Calls.{ringCallRefusal, ringCallLeaves};
 ghost use Rattle.records.specs.Records.{fitted, BeginsWith};
 use crate::DoubleLink;
 use kernel::ring_cut;
+use table::limits::MAX_DOUBLE_LINKS;
+use table::limits::MAX_RING;
 
 // How many of n double-links are copied: all, or none where they are too many.
 pub fn fit(n: usize) -> usize
     ensures { λ r. ⌜ r ≡ fitted n ⌝ }
 {
-    if 2048 < n { 0 } else { n }
+    if MAX_DOUBLE_LINKS < n { 0 } else { n }
 }
 
 // The words of the double-links that fit, at the front.
-pub fn flatten(ring: &[DoubleLink]) -> [u16; 4096]
+pub fn flatten(ring: &[DoubleLink]) -> [u16; MAX_RING]
     ensures { λ r. ⌜ BeginsWith r (now (ring .entry)) ⌝ }
 {
     let m = fit(ring.len());
-    let mut words = [0u16; 4096];
+    let mut words = [0u16; MAX_RING];
     let mut i = 0;
     while i < m {
         let l = ring[i];
@@ -33,7 +35,7 @@ pub fn flatten(ring: &[DoubleLink]) -> [u16; 4096]
 }
 
 // The cut along the words of n double-links.
-pub fn cut_front(table: &mut [u16], words: [u16; 4096], n: usize) -> u8
+pub fn cut_front(table: &mut [u16], words: [u16; MAX_RING], n: usize) -> u8
     ensures { λ r. ⌜ r ≡ ringCallRefusal (now (table .entry)) (take (2 * fitted n) words) ⌝ }
     ensures table { λ r. ⌜ now (table .exit) ≡ ringCallLeaves (now (table .entry)) (take (2 * fitted n) words) ⌝ }
 {

@@ -18,7 +18,8 @@ use Rattle.table.specs.Layout.{Table, isPresent, hypermapOf}
 use Rattle.table.specs.Commands.{presenceRefusal}
 use Rattle.table.proofs.Holding.{memPresent}
 use Rattle.table.proofs.Stages.{passed, fitting, allPresent, presentFits}
-use Rattle.rings.specs.Rings.{linksOf, maxRing, isList, pairsTogether, pathCloses, conditionRefusal, ringRefusal}
+use Rattle.table.specs.Limits.{maxRing}
+use Rattle.rings.specs.Rings.{linksOf, isList, pairsTogether, pathCloses, conditionRefusal, ringRefusal}
 use Rattle.rings.specs.Laws.{isRingOf, ConditionsLaw}
 
 -- THE LIST

@@ -9,6 +9,7 @@ use lib.ListN.{length}
 use Rattle.hypermap.specs.Lists.{all}
 use Rattle.hypermap.specs.Hypermap.{Kind, face, sameOrbit, sameEdge}
 use Rattle.hypermap.specs.Ring.{DoubleLink, noTwo}
+use Rattle.table.specs.Limits.{maxCapacity}
 use Rattle.table.specs.Layout.{Table, capacity, isPresent, holdsHypermap, hypermapOf}
 use Rattle.parts.specs.Inner.{markAt}
 use Rattle.rings.specs.Rings.{linksOf}
@@ -16,7 +17,7 @@ use Rattle.rings.specs.Rings.{linksOf}
 -- a list of darts of a sound table that the local arrays have room for
 pub record Listed (w : Table) (ws : List ℕ) : Type 0 where
   pub hypermap : holdsHypermap w ≡ true
-  pub room : capacity w ≤ 4096
+  pub room : capacity w ≤ maxCapacity
   pub darts : all (isPresent w) ws ≡ true
 
 -- and a mark for each number

@@ -7,6 +7,7 @@ use lib.Dec.{leb, ltb, eqb}
 use lib.ListN.{length}
 use Rattle.hypermap.specs.Hypermap.{edge, Hypermap, sameEdge}
 use Rattle.hypermap.specs.Ring.{DoubleLink, allLinks, unicity, continuity, closure, simplicity, pairsDiffer}
+use Rattle.table.specs.Limits.{maxRing}
 use Rattle.table.specs.Refusals.{noList, apart, sameTab, tieTwice, gapTwice, pathBroken, orElse, unless}
 use Rattle.table.specs.Layout.{Table, hypermapOf}
 use Rattle.table.specs.Commands.{swapped, presenceRefusal, leaves}
@@ -17,10 +18,7 @@ linksOf [] = []
 linksOf (a ∷ []) = []
 linksOf (a ∷ b ∷ ws) = record { first = a; second = b } ∷ linksOf ws
 
-abbrev pub maxRing : ℕ
-maxRing = 4096
-
--- 10: not empty, odd or above 4,096 words
+-- not 10: not empty, not odd, not above the limit
 unfoldable pub isList : (words : List ℕ) → Bool
 isList ws = ltb 0 (length ws) && eqb (length ws % 2) 0 && leb (length ws) maxRing
 

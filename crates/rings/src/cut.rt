@@ -1,6 +1,6 @@
 // The break of Definition 2.8: the change of each double-link in turn, where the ring is accepted.
 ghost use mathlib.Core.Path.{_≡_};
-ghost use Rattle.parts.specs.Inner.{WithinCapacity};
+ghost use Rattle.table.specs.Inner.{WithinCapacity};
 ghost use Rattle.rings.specs.Rings.{linksOf, cutAlong, ringRefusal, ringLeaves};
 ghost use Rattle.rings.specs.Inner.{Listed};
 use crate::rules::ring_refusal;
@@ -19,7 +19,7 @@ fn cut_along(table: &mut [u16], ring: &[u16])
 }
 
 // Answers the ring's refusal, or cuts along it and answers 0.
-pub fn ring_cut(table: &mut [u16], ring: &[u16]) -> u8
+pub fn cut_ring(table: &mut [u16], ring: &[u16]) -> u8
     requires { ⌜ WithinCapacity (now table) ⌝ }
     ensures { λ r. ⌜ r ≡ ringRefusal (now (table .entry)) (now (ring .entry)) ⌝ }
     ensures table { λ r. ⌜ now (table .exit) ≡ ringLeaves (now (table .entry)) (now (ring .entry)) ⌝ }

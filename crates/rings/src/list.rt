@@ -5,11 +5,9 @@ ghost use Rattle.hypermap.specs.Ring.{pairsDiffer};
 ghost use Rattle.table.specs.Layout.{isNumber, isPresent};
 ghost use Rattle.table.specs.Commands.{presenceRefusal};
 ghost use Rattle.rings.specs.Rings.{linksOf, isList};
+use table::limits::MAX_RING;
 use table::refusals;
 use table::words;
-
-// Words that a list may have.
-const MAX_RING: usize = 4096;
 
 pub fn is_list(ring: &[u16]) -> bool
     ensures { λ r. ⌜ r ≡ isList (now (ring .entry)) ⌝ }
@@ -23,7 +21,7 @@ fn are_numbers(table: &[u16], ring: &[u16]) -> bool
 {
     let mut k = 0;
     while k < ring.len() {
-        if !words::is_number(table, ring[k]) {
+        if !words::is_number(table, words::to_number(ring[k])) {
             return false;
         }
         k += 1;
@@ -37,7 +35,7 @@ fn are_present(table: &[u16], ring: &[u16]) -> bool
 {
     let mut k = 0;
     while k < ring.len() {
-        if !words::is_present(table, ring[k]) {
+        if !words::is_present(table, words::to_number(ring[k])) {
             return false;
         }
         k += 1;

@@ -1,7 +1,7 @@
 // The refusals of a ring in document 01's order, each condition over the whole list before the next.
 ghost use mathlib.Core.Path.{_≡_};
 ghost use Rattle.table.specs.Layout.{hypermapOf};
-ghost use Rattle.parts.specs.Inner.{WithinCapacity};
+ghost use Rattle.table.specs.Inner.{WithinCapacity};
 ghost use Rattle.rings.specs.Rings.{linksOf, conditionRefusal, ringRefusal};
 ghost use Rattle.rings.specs.Inner.{ListedMarking};
 use crate::apart::firsts_apart;
@@ -9,6 +9,7 @@ use crate::list;
 use crate::path::path_closes;
 use crate::together::pairs_together;
 use table::Orbit;
+use table::limits::MAX_CAPACITY;
 use table::refusals;
 use table::words;
 
@@ -44,6 +45,6 @@ pub fn ring_refusal(table: &[u16], ring: &[u16]) -> u8
         return refusal;
     }
     let n = words::capacity_of(table);
-    let mut marks = [0u16; 4096];
+    let mut marks = [0u16; MAX_CAPACITY];
     condition_refusal(table, ring, &mut marks[..n])
 }

@@ -1,22 +1,26 @@
-// The commands on a table: each answers its refusal, or makes its change and answers 0. A join or cut walks, and so
-// requires a sound table; document 01's refusals 1 and 2 are the caller's.
+// A change of a table: its refusal, the words that it writes, and both in turn. Document 01's refusals 1 and 2 are the
+// caller's.
 ghost use mathlib.Core.Path.{_≡_};
-ghost use mathlib.Core.Bool.{true};
 ghost use mathlib.Core.List.{[], _∷_};
-ghost use Rattle.table.specs.Layout.{holdsHypermap};
-ghost use Rattle.table.specs.Commands.{isAlone, presenceRefusal, commandRefusal, commandLeaves, puts, takesOut};
-ghost use Rattle.table.specs.Commands.{joins, cuts};
-ghost use Rattle.table.specs.Inner.{InTable, dimensionOf};
+ghost use Rattle.table.specs.Limits.{edgeNext};
+ghost use Rattle.table.specs.Commands.{isAlone, presenceRefusal, commandRefusal, commandOn, commandLeaves};
+ghost use Rattle.table.specs.Commands.{puts, takesOut, joins, cuts, withAll, swapped};
+ghost use Rattle.table.specs.Inner.{InTable, WithinCapacity, WithinCapacityAtBoth, Accepts, Storable};
+ghost use Rattle.table.specs.Inner.{dimensionOf, commandFor};
+use crate::Change;
 use crate::Dimension;
+use crate::limits::EDGE_NEXT;
+use crate::limits::VERTEX_NEXT;
 use crate::refusals;
 use crate::store;
 use crate::walk;
 use crate::words;
+use crate::words::to_word;
 
-// REFUSALS
+// PRESENCE
 
 // 3, then 4, of one dart.
-pub fn dart_refusal(table: &[u16], x: u16) -> u8
+pub fn dart_refusal(table: &[u16], x: u32) -> u8
     ensures { λ r. ⌜ r ≡ presenceRefusal (now (table .entry)) (x ∷ []) ⌝ }
 {
     refusals::or_else(
@@ -26,27 +30,29 @@ pub fn dart_refusal(table: &[u16], x: u16) -> u8
 }
 
 // 3 of both darts, then 4 of both.
-pub fn darts_refusal(table: &[u16], a: u16, b: u16) -> u8
+pub fn darts_refusal(table: &[u16], a: u32, b: u32) -> u8
     ensures { λ r. ⌜ r ≡ presenceRefusal (now (table .entry)) (a ∷ b ∷ []) ⌝ }
 {
     if !(words::is_number(table, a) & words::is_number(table, b)) {
         return refusals::OFF_THE_TABLE;
     }
     refusals::unless_so(
-        (0 < words::word(table, a, 0)) & (0 < words::word(table, b, 0)),
+        words::is_dart(table, a) & words::is_dart(table, b),
         refusals::NO_TAB,
     )
 }
 
 // Whether dart x is an edge and a vertex by itself.
 pub fn is_alone(table: &[u16], x: u16) -> bool
-    requires { ⌜ InTable (now table) x 0 ⌝ }
+    requires { ⌜ InTable (now table) x edgeNext ⌝ }
     ensures { λ r. ⌜ r ≡ isAlone (now (table .entry)) x ⌝ }
 {
-    (words::word(table, x, 0) == x) & (words::word(table, x, 2) == x)
+    (words::word(table, x, EDGE_NEXT) == x) & (words::word(table, x, VERTEX_NEXT) == x)
 }
 
-fn put_refusal(table: &[u16], x: u16) -> u8
+// THE REFUSAL of a change
+
+fn put_refusal(table: &[u16], x: u32) -> u8
     ensures { λ r. ⌜ r ≡ commandRefusal (now (table .entry)) (puts x) ⌝ }
 {
     refusals::or_else(
@@ -55,29 +61,33 @@ fn put_refusal(table: &[u16], x: u16) -> u8
     )
 }
 
-fn take_out_refusal(table: &[u16], x: u16) -> u8
+fn take_out_refusal(table: &[u16], x: u32) -> u8
+    requires { ⌜ WithinCapacity (now table) ⌝ }
     ensures { λ r. ⌜ r ≡ commandRefusal (now (table .entry)) (takesOut x) ⌝ }
 {
     let refusal = dart_refusal(table, x);
     if refusal != 0 {
         return refusal;
     }
-    refusals::unless_so(is_alone(table, x), refusals::TAB_HELD)
+    refusals::unless_so(is_alone(table, to_word(x)), refusals::TAB_HELD)
 }
 
-fn join_refusal(table: &[u16], d: Dimension, a: u16, b: u16) -> u8
-    requires { ⌜ holdsHypermap (now table) ≡ true ⌝ }
+fn join_refusal(table: &[u16], d: Dimension, a: u32, b: u32) -> u8
+    requires { ⌜ WithinCapacity (now table) ⌝ }
     ensures { λ r. ⌜ r ≡ commandRefusal (now (table .entry)) (joins (dimensionOf d) a b) ⌝ }
 {
     let refusal = darts_refusal(table, a, b);
     if refusal != 0 {
         return refusal;
     }
-    refusals::unless_so(!walk::is_together(table, d, a, b), refusals::TOGETHER)
+    refusals::unless_so(
+        !walk::is_together(table, d, to_word(a), to_word(b)),
+        refusals::TOGETHER,
+    )
 }
 
-fn cut_refusal(table: &[u16], d: Dimension, a: u16, b: u16) -> u8
-    requires { ⌜ holdsHypermap (now table) ≡ true ⌝ }
+fn cut_refusal(table: &[u16], d: Dimension, a: u32, b: u32) -> u8
+    requires { ⌜ WithinCapacity (now table) ⌝ }
     ensures { λ r. ⌜ r ≡ commandRefusal (now (table .entry)) (cuts (dimensionOf d) a b) ⌝ }
 {
     let refusal = darts_refusal(table, a, b);
@@ -85,55 +95,67 @@ fn cut_refusal(table: &[u16], d: Dimension, a: u16, b: u16) -> u8
         return refusal;
     }
     refusals::or_else(
-        refusals::unless_so(walk::is_together(table, d, a, b), refusals::APART),
+        refusals::unless_so(
+            walk::is_together(table, d, to_word(a), to_word(b)),
+            refusals::APART,
+        ),
         refusals::unless_so(!(a == b), refusals::SAME_TAB),
     )
 }
 
-// COMMANDS
-
-pub fn put(table: &mut [u16], x: u16) -> u8
-    ensures { λ r. ⌜ r ≡ commandRefusal (now (table .entry)) (puts x) ⌝ }
-    ensures table { λ r. ⌜ now (table .exit) ≡ commandLeaves (now (table .entry)) (puts x) ⌝ }
+pub fn refusal_of(table: &[u16], change: Change) -> u8
+    requires { ⌜ WithinCapacity (now table) ⌝ }
+    ensures { λ r. ⌜ r ≡ commandRefusal (now (table .entry)) (commandFor change) ⌝ }
 {
-    let refusal = put_refusal(table, x);
-    if refusal == 0 {
-        store::set_all(table, x, x);
+    match change {
+        Change::Put(x) => put_refusal(table, x),
+        Change::TakeOut(x) => take_out_refusal(table, x),
+        Change::EdgeJoin(a, b) => join_refusal(table, Dimension::Edge, a, b),
+        Change::EdgeCut(a, b) => cut_refusal(table, Dimension::Edge, a, b),
+        Change::VertexJoin(a, b) => join_refusal(table, Dimension::Vertex, a, b),
+        Change::VertexCut(a, b) => cut_refusal(table, Dimension::Vertex, a, b),
     }
-    refusal
 }
 
-pub fn take_out(table: &mut [u16], x: u16) -> u8
-    ensures { λ r. ⌜ r ≡ commandRefusal (now (table .entry)) (takesOut x) ⌝ }
-    ensures table { λ r. ⌜ now (table .exit) ≡ commandLeaves (now (table .entry)) (takesOut x) ⌝ }
+// ITS WORDS, where it is not refused
+
+fn write_all(table: &mut [u16], x: u32, value: u32)
+    requires { ⌜ Storable (now table) x value ⌝ }
+    ensures { λ _. ⌜ now (table .exit) ≡ withAll x value (now (table .entry)) ⌝ }
 {
-    let refusal = take_out_refusal(table, x);
-    if refusal == 0 {
-        store::set_all(table, x, 0);
-    }
-    refusal
+    store::set_all(table, to_word(x), to_word(value));
 }
 
-pub fn join(table: &mut [u16], d: Dimension, a: u16, b: u16) -> u8
-    requires { ⌜ holdsHypermap (now table) ≡ true ⌝ }
-    ensures { λ r. ⌜ r ≡ commandRefusal (now (table .entry)) (joins (dimensionOf d) a b) ⌝ }
-    ensures table { λ r. ⌜ now (table .exit) ≡ commandLeaves (now (table .entry)) (joins (dimensionOf d) a b) ⌝ }
+fn write_swap(table: &mut [u16], d: Dimension, a: u32, b: u32)
+    requires { ⌜ WithinCapacityAtBoth (now table) a b ⌝ }
+    ensures { λ _. ⌜ now (table .exit) ≡ swapped (dimensionOf d) a b (now (table .entry)) ⌝ }
 {
-    let refusal = join_refusal(table, d, a, b);
-    if refusal == 0 {
-        store::swap(table, d, a, b);
-    }
-    refusal
+    store::swap(table, d, to_word(a), to_word(b));
 }
 
-pub fn cut(table: &mut [u16], d: Dimension, a: u16, b: u16) -> u8
-    requires { ⌜ holdsHypermap (now table) ≡ true ⌝ }
-    ensures { λ r. ⌜ r ≡ commandRefusal (now (table .entry)) (cuts (dimensionOf d) a b) ⌝ }
-    ensures table { λ r. ⌜ now (table .exit) ≡ commandLeaves (now (table .entry)) (cuts (dimensionOf d) a b) ⌝ }
+pub fn write(table: &mut [u16], change: Change)
+    requires { ⌜ Accepts (now table) (commandFor change) ⌝ }
+    ensures { λ _. ⌜ now (table .exit) ≡ commandOn (now (table .entry)) (commandFor change) ⌝ }
 {
-    let refusal = cut_refusal(table, d, a, b);
+    match change {
+        Change::Put(x) => write_all(table, x, x),
+        Change::TakeOut(x) => write_all(table, x, 0),
+        Change::EdgeJoin(a, b) => write_swap(table, Dimension::Edge, a, b),
+        Change::EdgeCut(a, b) => write_swap(table, Dimension::Edge, a, b),
+        Change::VertexJoin(a, b) => write_swap(table, Dimension::Vertex, a, b),
+        Change::VertexCut(a, b) => write_swap(table, Dimension::Vertex, a, b),
+    }
+}
+
+// BOTH: the refusal, or 0 and the change is made.
+pub fn perform(table: &mut [u16], change: Change) -> u8
+    requires { ⌜ WithinCapacity (now table) ⌝ }
+    ensures { λ r. ⌜ r ≡ commandRefusal (now (table .entry)) (commandFor change) ⌝ }
+    ensures table { λ r. ⌜ now (table .exit) ≡ commandLeaves (now (table .entry)) (commandFor change) ⌝ }
+{
+    let refusal = refusal_of(table, change);
     if refusal == 0 {
-        store::swap(table, d, a, b);
+        write(table, change);
     }
     refusal
 }

@@ -1,18 +1,23 @@
-// Whether a table is sound. Half the look-ups of the definition suffice: successors that are undone by their
+// Whether a table holds a hypermap. Half the look-ups of the definition suffice: successors that are undone by their
 // predecessors are an injection of the darts into themselves, and so onto.
 ghost use mathlib.Core.Path.{_≡_};
-ghost use Prim.Native.Nat.{_≤_};
+ghost use Prim.Native.Nat.{_<_};
+ghost use Rattle.table.specs.Limits.{edgeNext, maxWord};
 ghost use Rattle.table.specs.Layout.{capacity, holdsHypermap};
 ghost use Rattle.table.specs.Inner.{InTable, halfLinked, halfFits, dimensionOf};
 use crate::Dimension;
+use crate::limits::EDGE_BACK;
+use crate::limits::EDGE_NEXT;
+use crate::limits::VERTEX_BACK;
+use crate::limits::VERTEX_NEXT;
 use crate::words;
 
 fn is_half_linked(table: &[u16], d: Dimension, x: u16) -> bool
-    requires { ⌜ InTable (now table) x 0 ⌝ }
+    requires { ⌜ InTable (now table) x edgeNext ⌝ }
     ensures { λ r. ⌜ r ≡ halfLinked (now (table .entry)) (dimensionOf d) x ⌝ }
 {
     let next = words::word(table, x, words::next_word(d));
-    if words::is_number(table, next) {
+    if words::is_number(table, words::to_number(next)) {
         words::word(table, next, words::back_word(d)) == x
     } else {
         false
@@ -20,13 +25,13 @@ fn is_half_linked(table: &[u16], d: Dimension, x: u16) -> bool
 }
 
 fn half_fits(table: &[u16], x: u16) -> bool
-    requires { ⌜ InTable (now table) x 0 ⌝ }
+    requires { ⌜ InTable (now table) x edgeNext ⌝ }
     ensures { λ r. ⌜ r ≡ halfFits (now (table .entry)) x ⌝ }
 {
-    if words::word(table, x, 0) == 0 {
-        (words::word(table, x, 1) == 0)
-            & (words::word(table, x, 2) == 0)
-            & (words::word(table, x, 3) == 0)
+    if words::word(table, x, EDGE_NEXT) == 0 {
+        (words::word(table, x, EDGE_BACK) == 0)
+            & (words::word(table, x, VERTEX_NEXT) == 0)
+            & (words::word(table, x, VERTEX_BACK) == 0)
     } else if is_half_linked(table, Dimension::Edge, x) {
         is_half_linked(table, Dimension::Vertex, x)
     } else {
@@ -35,7 +40,7 @@ fn half_fits(table: &[u16], x: u16) -> bool
 }
 
 pub fn holds_hypermap(table: &[u16]) -> bool
-    requires { ⌜ capacity (now table) ≤ 65534 ⌝ }
+    requires { ⌜ capacity (now table) < maxWord ⌝ }
     ensures { λ r. ⌜ r ≡ holdsHypermap (now (table .entry)) ⌝ }
 {
     let mut x: u16 = 1;

@@ -1,7 +1,9 @@
-// A lent table: reading, soundness, walks and changes. Inner functions: they may require a sound table.
+// A lent table: its words, whether it holds a hypermap, walks, and changes. Inner functions: they may require a table
+// that holds a hypermap and is within the capacity.
 
 pub mod changes;
 pub mod hypermap_test;
+pub mod limits;
 pub mod refusals;
 pub mod store;
 pub mod walk;
@@ -18,4 +20,15 @@ pub enum Orbit {
     Edge,
     Vertex,
     Face,
+}
+
+// A change of a table: a variant for each command byte that changes one, so that the dimension is known in its arm.
+// Numbers come from outside, in 32 bits; whether they name darts is judged before they become words.
+pub enum Change {
+    Put(u32),
+    TakeOut(u32),
+    EdgeJoin(u32, u32),
+    EdgeCut(u32, u32),
+    VertexJoin(u32, u32),
+    VertexCut(u32, u32),
 }

@@ -1,19 +1,24 @@
-// The changes of a table, each as document 01 writes it in words.
+// What a change writes, as document 01 says it in words.
 ghost use mathlib.Core.Path.{_≡_};
 ghost use Rattle.table.specs.Commands.{withAll, swapped};
+ghost use Rattle.table.specs.Limits.{edgeNext};
 ghost use Rattle.table.specs.Inner.{InTable, HypermapAtBoth, dimensionOf};
 use crate::Dimension;
+use crate::limits::EDGE_BACK;
+use crate::limits::EDGE_NEXT;
+use crate::limits::VERTEX_BACK;
+use crate::limits::VERTEX_NEXT;
 use crate::words;
 
-// All four words of dart x.
+// The four words of dart x.
 pub fn set_all(table: &mut [u16], x: u16, value: u16)
-    requires { ⌜ InTable (now table) x 0 ⌝ }
+    requires { ⌜ InTable (now table) x edgeNext ⌝ }
     ensures { λ _. ⌜ now (table .exit) ≡ withAll x value (now (table .entry)) ⌝ }
 {
-    words::set_word(table, x, 3, value);
-    words::set_word(table, x, 2, value);
-    words::set_word(table, x, 1, value);
-    words::set_word(table, x, 0, value);
+    words::set_word(table, x, VERTEX_BACK, value);
+    words::set_word(table, x, VERTEX_NEXT, value);
+    words::set_word(table, x, EDGE_BACK, value);
+    words::set_word(table, x, EDGE_NEXT, value);
 }
 
 // The change of Definition 2.8: a join or a cut.

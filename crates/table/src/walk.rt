@@ -1,5 +1,6 @@
-// Walks from dart to dart of a sound table. A walk needs no counter to end: by the law of orbits it comes home. One
-// that counts its steps counts in 16 bits: no orbit passes the capacity, nor has as many darts as a word has values.
+// Walks from dart to dart of a table that holds a hypermap. A walk needs no counter to end: by the law of orbits it
+// comes home. One that counts its steps counts in 16 bits: no orbit passes the capacity, nor has as many darts as a
+// word has values.
 ghost use mathlib.Core.Path.{_≡_};
 ghost use mathlib.Core.List.{_++_};
 ghost use lib.ListN.{length, drop};
@@ -9,6 +10,10 @@ ghost use Rattle.table.specs.Commands.{isTogether};
 ghost use Rattle.table.specs.Inner.{HypermapAt, HypermapAtBoth, RoomForOrbit, dimensionOf, kindOf};
 use crate::Dimension;
 use crate::Orbit;
+use crate::limits::EDGE_BACK;
+use crate::limits::EDGE_NEXT;
+use crate::limits::VERTEX_BACK;
+use crate::limits::VERTEX_NEXT;
 use crate::words::next_word;
 use crate::words::word;
 
@@ -26,9 +31,9 @@ pub fn step(table: &[u16], orbit: Orbit, x: u16) -> u16
     ensures { λ r. ⌜ r ≡ stepOf (hypermapOf (now (table .entry))) (kindOf orbit) x ⌝ }
 {
     match orbit {
-        Orbit::Edge => word(table, x, 0),
-        Orbit::Vertex => word(table, x, 2),
-        Orbit::Face => word(table, word(table, x, 1), 3),
+        Orbit::Edge => word(table, x, EDGE_NEXT),
+        Orbit::Vertex => word(table, x, VERTEX_NEXT),
+        Orbit::Face => word(table, word(table, x, EDGE_BACK), VERTEX_BACK),
     }
 }
 

@@ -8,11 +8,11 @@ use borrow.Author.Tests.{eq-eqb, ne-eqb}
 use borrow.Rule.Slice.PartAt.{part-to-end}
 use Rattle.table.specs.Layout.{Table}
 use Rattle.table.specs.Commands.{leaves}
-use Rattle.parts.specs.Inner.{WithinCapacity}
+use Rattle.table.specs.Inner.{WithinCapacity}
 use Rattle.tape.specs.Steps.{stepRefusal, stepOn, stepLeaves}
 use Rattle.tape.specs.Tapes.{Contents, commandOf, readRefusal, restOf}
 use Rattle.tape.specs.Runs.{Outcome, stopped, oneMore, runOver, runOf, toldOf}
-use Rattle.tape.specs.Inner.{meaning, numberOf, Reads, Playable}
+use Rattle.tape.specs.Inner.{meaning, refusalIn, Reads, Playable}
 use Rattle.tape.specs.declared.Instruction.{Instruction}
 use Rattle.tape.specs.declared.Reading.{Reading}
 use Rattle.tape.specs.declared.Reading.the-variants.{Whole, Refused}
@@ -88,7 +88,7 @@ module _ (w₀ : Table) (tape : List ℕ) (w : Table) (rest : List ℕ) (k : ℕ
 
   -- the decoder reads r
   module _ (some : 0 < length rest) (r : Reading) (a : Reads rest r) where
-    pub playingRefused : (n m : ℕ) → r ≡ Refused n → m ≡ numberOf r → Told (runOf w₀ tape) m k w
+    pub playingRefused : (n m : ℕ) → r ≡ Refused n → m ≡ refusalIn r → Told (runOf w₀ tape) m k w
     playingRefused n m b e =
         let q : Reads rest (Refused n) = rw b at a in
         let g : m ≡ readRefusal rest = rw (b, q .0) at e in

@@ -8,11 +8,12 @@ use lib.Dec.{eqb}
 use lib.ListN.{length, replicate, length-replicate}
 use borrow.Author.Tests.{eqb-true, eqb-false}
 use Rattle.hypermap.proofs.Basics.Bools.{byCases}
-use Rattle.table.specs.Layout.{Table, wordsPerDart, holdsHypermap}
+use Rattle.table.specs.Limits.{wordsPerDart, maxCapacity}
+use Rattle.table.specs.Layout.{Table, holdsHypermap}
 use Rattle.table.specs.Commands.{leaves}
 use Rattle.table.proofs.Zeros.{zerosHold}
 use Rattle.table.proofs.Commands.{keepsHypermapLaw}
-use Rattle.parts.specs.Inner.{WithinCapacity}
+use Rattle.table.specs.Inner.{WithinCapacity}
 use Rattle.rings.proofs.Parting.{acceptedCut}
 use Rattle.tape.specs.Steps.{TapeCommand, changes, reports, cutsRing, stepRefusal, stepOn, stepLeaves}
 use Rattle.tape.specs.Tapes.{contentsOf}
@@ -82,7 +83,7 @@ leavesWithin w c k =
     (λ f. rw f (k, refl))
 
 -- a run starts on an empty table
-pub zerosWithin : (n : ℕ) → n ≤ 4096 → WithinCapacity (replicate (wordsPerDart * n) 0)
+pub zerosWithin : (n : ℕ) → n ≤ maxCapacity → WithinCapacity (replicate (wordsPerDart * n) 0)
 zerosWithin n h =
     record { hypermap = zerosHold (wordsPerDart * n); room = rw length-replicate (omega arith) }
 

@@ -2,12 +2,15 @@
 ghost use mathlib.Core.Path.{_≡_};
 ghost use Prim.Native.Nat.{_+_, _*_, _≤_, _<_};
 ghost use lib.ListN.{getD, length};
+ghost use Rattle.table.specs.Limits.{maxWord, maxTapeRing, maxTape};
 ghost use Rattle.tape.specs.Tapes.{byteOf, operandBytes, numberAt, numbersFrom};
-ghost use Rattle.tape.specs.Inner.{StartsBy, numberOf, Reads};
+ghost use Rattle.tape.specs.Inner.{StartsBy, refusalIn, Reads};
 use crate::Instruction;
 use crate::Reading;
 use crate::operands;
+use table::Change;
 use table::refusals;
+use table::words::to_word;
 
 // A byte of the tape, 0 behind its end.
 fn byte_at(tape: &[u8], i: usize) -> u8
@@ -16,15 +19,16 @@ fn byte_at(tape: &[u8], i: usize) -> u8
     if i < tape.len() { tape[i] } else { 0 }
 }
 
-// A number of two bytes.
-fn number_of_bytes(low: u8, high: u8) -> u16
+// A number of two bytes, which a word holds.
+fn number_of_bytes(low: u8, high: u8) -> u32
     ensures { λ r. ⌜ r ≡ low + 256 * high ⌝ }
+    ensures small { λ r. ⌜ r ≤ maxWord ⌝ }
 {
-    low as u16 + 256 * high as u16
+    low as u32 + 256 * high as u32
 }
 
 // The number in two bytes, low byte first.
-fn number_at(tape: &[u8], i: usize) -> u16
+fn number_at(tape: &[u8], i: usize) -> u32
     requires { ⌜ i + 1 < length (now tape) ⌝ }
     ensures { λ r. ⌜ r ≡ numberAt (now (tape .entry)) i ⌝ }
 {
@@ -32,9 +36,10 @@ fn number_at(tape: &[u8], i: usize) -> u16
 }
 
 // The same where the tape may end before.
-pub fn number_or_zero(tape: &[u8], i: usize) -> u16
-    requires { ⌜ i ≤ 65536 ⌝ }
+pub fn number_or_zero(tape: &[u8], i: usize) -> u32
+    requires { ⌜ i ≤ maxTape ⌝ }
     ensures { λ r. ⌜ r ≡ numberAt (now (tape .entry)) i ⌝ }
+    ensures small { λ r. ⌜ r ≤ maxWord ⌝ }
 {
     number_of_bytes(byte_at(tape, i), byte_at(tape, i + 1))
 }
@@ -49,11 +54,11 @@ fn one_dart(tape: &[u8], byte: u8, operand_bytes: &[u8; 9]) -> Reading
         return Reading::Refused(refusals::TORN_COMMAND);
     }
     let x = number_at(tape, 1);
-    let instruction = match byte {
-        operands::PUT => Instruction::Put(x),
-        _ => Instruction::TakeOut(x),
+    let change = match byte {
+        operands::PUT => Change::Put(x),
+        _ => Change::TakeOut(x),
     };
-    Reading::Whole(instruction, size)
+    Reading::Whole(Instruction::Change(change), size)
 }
 
 // A join or a cut.
@@ -67,13 +72,13 @@ fn two_darts(tape: &[u8], byte: u8, operand_bytes: &[u8; 9]) -> Reading
     }
     let a = number_at(tape, 1);
     let b = number_at(tape, 3);
-    let instruction = match byte {
-        operands::EDGE_JOIN => Instruction::EdgeJoin(a, b),
-        operands::EDGE_CUT => Instruction::EdgeCut(a, b),
-        operands::VERTEX_JOIN => Instruction::VertexJoin(a, b),
-        _ => Instruction::VertexCut(a, b),
+    let change = match byte {
+        operands::EDGE_JOIN => Change::EdgeJoin(a, b),
+        operands::EDGE_CUT => Change::EdgeCut(a, b),
+        operands::VERTEX_JOIN => Change::VertexJoin(a, b),
+        _ => Change::VertexCut(a, b),
     };
-    Reading::Whole(instruction, size)
+    Reading::Whole(Instruction::Change(change), size)
 }
 
 fn ring(tape: &[u8], operand_bytes: &[u8; 9]) -> Reading
@@ -81,7 +86,8 @@ fn ring(tape: &[u8], operand_bytes: &[u8; 9]) -> Reading
     ensures { λ r. ⌜ Reads (now (tape .entry)) r ⌝ }
 {
     let n = byte_at(tape, 1);
-    let size = operands::command_size(operand_bytes, operands::RING_CUT) + 4 * operands::wide(n);
+    let size = operands::command_size(operand_bytes, operands::RING_CUT)
+        + 4 * operands::byte_to_usize(n);
     if tape.len() < size {
         return Reading::Refused(refusals::TORN_COMMAND);
     }
@@ -113,9 +119,9 @@ pub fn read(tape: &[u8], operand_bytes: &[u8; 9]) -> Reading
     }
 }
 
-// The number of a refused reading, 0 of a whole one.
-pub fn number_of(reading: Reading) -> u8
-    ensures { λ r. ⌜ r ≡ numberOf reading ⌝ }
+// The refusal of a reading, 0 of a whole one.
+pub fn refusal_in(reading: Reading) -> u8
+    ensures { λ r. ⌜ r ≡ refusalIn reading ⌝ }
 {
     match reading {
         Reading::Whole(_, _) => 0,
@@ -125,12 +131,12 @@ pub fn number_of(reading: Reading) -> u8
 
 // The numbers of a tape from its third byte on, as many as there are words to fill.
 pub fn read_numbers(tape: &[u8], words: &mut [u16])
-    requires { ⌜ length (now words) ≤ 4096 ⌝ }
+    requires { ⌜ length (now words) ≤ maxTapeRing ⌝ }
     ensures { λ _. ⌜ now (words .exit) ≡ numbersFrom (length (now (words .entry))) 2 (now (tape .entry)) ⌝ }
 {
     let mut k = 0;
     while k < words.len() {
-        words[k] = number_or_zero(tape, 2 + 2 * k);
+        words[k] = to_word(number_or_zero(tape, 2 + 2 * k));
         k += 1;
     }
 }

@@ -1,20 +1,16 @@
-// Tapes of commands: the operand table, the decoder, one step, the player. Inner functions: they may require a sound
-// table.
+// Tapes of commands: the operand table, the decoder, one step, the player. Inner functions: they may require a table
+// within the capacity.
 
 pub mod decode;
 pub mod operands;
 pub mod play;
 pub mod step;
 
-// A command of a tape: a variant for each command byte, so that what carries out an arm knows its dimension. A ring has
-// its number of double-links here, and its darts on the tape.
+use table::Change;
+
+// A command of a tape. A ring has its number of double-links here, and its darts on the tape.
 pub enum Instruction {
-    Put(u16),
-    TakeOut(u16),
-    EdgeJoin(u16, u16),
-    EdgeCut(u16, u16),
-    VertexJoin(u16, u16),
-    VertexCut(u16, u16),
+    Change(Change),
     Report,
     RingCut(u8),
 }

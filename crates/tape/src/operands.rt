@@ -23,7 +23,7 @@ pub const REPORT: u8 = 7;
 
 pub const RING_CUT: u8 = 8;
 
-pub fn wide(x: u8) -> usize
+pub fn byte_to_usize(x: u8) -> usize
     ensures { λ r. ⌜ r ≡ x ⌝ }
 {
     x as usize
@@ -34,6 +34,6 @@ pub fn command_size(operand_bytes: &[u8; 9], byte: u8) -> usize
     requires { ⌜ (now «operand_bytes» ≡ operandBytes) × (isCommand byte ≡ true) ⌝ }
     ensures { λ r. ⌜ r ≡ commandSize byte ⌝ }
 {
-    let at = wide(byte);
-    1 + wide(operand_bytes[at])
+    let at = byte_to_usize(byte);
+    1 + byte_to_usize(operand_bytes[at])
 }

@@ -20,11 +20,11 @@ pub fn play(table: &mut [u16], tape: &[u8]) -> Run
         let reading = decode::read(rest, &operand_bytes);
         let Reading::Whole(instruction, size) = reading else {
             return Run {
-                number: decode::number_of(reading),
+                number: decode::refusal_in(reading),
                 accepted: accepted,
             };
         };
-        let refusal = step::perform(table, rest, instruction);
+        let refusal = step::take_step(table, rest, instruction);
         if refusal != 0 {
             return Run {
                 number: refusal,

@@ -8,7 +8,8 @@ use native.Mathlib.Omega.{arith}
 use lib.ListN.{length, length-map, replicate}
 use borrow.Author.Tests.{eq-eqb}
 use Rattle.hypermap.specs.Hypermap.{Dimension, edge, vertex, isDart}
-use Rattle.table.specs.Layout.{Table, wordsPerDart, capacity, wordAt, nextWord, backWord, isPresent, holdsHypermap}
+use Rattle.table.specs.Limits.{wordsPerDart}
+use Rattle.table.specs.Layout.{Table, capacity, wordAt, nextWord, backWord, isPresent, holdsHypermap}
 use Rattle.table.specs.Layout.{hypermapOf}
 use Rattle.table.specs.Laws.{Holds}
 use Rattle.table.proofs.Holding.{low, high, memPresent, links, tableHypermap}

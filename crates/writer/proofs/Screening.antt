@@ -14,7 +14,8 @@ use Rattle.writer.specs.Canonical.{tapeOf}
 use Rattle.writer.specs.Inner.{HasRoom, Lays, written, writtenLeaves}
 use Rattle.tape.specs.declared.Run.{Run}
 use Rattle.writer.proofs.Laying.{laysNone, laysThen, laysWhole}
-use Rattle.writer.specs.Screens.{screenRoom, screenBytes, fourBytes, twosComplement, numbersBytes, tenNumbers}
+use Rattle.table.specs.Limits.{screenRoom, longestCanonical}
+use Rattle.writer.specs.Screens.{screenBytes, fourBytes, twosComplement, numbersBytes, tenNumbers}
 use Rattle.writer.specs.Screens.{outcomeOf}
 use Rattle.writer.specs.Inner.{NumbersRoom}
 
@@ -98,7 +99,7 @@ behind h hs bs o p t e l f w =
 pub answerLaid :
     (w : Table) (r : Run) (c : Counts) (z : ℕ) (o p t : List ℕ) {n : ℕ} →
     c ≡ countsOf (hypermapOf w) → z ≡ twosComplement (c .characteristic) → screenRoom ≤ length o →
-    length (tapeOf w) ≤ 53238 → Lays 0
+    length (tapeOf w) ≤ longestCanonical → Lays 0
     (numbersBytes
     (r .number ∷ r .accepted ∷ c .darts ∷ c .edges ∷ c .vertices ∷ c .faces ∷ c .components ∷ z ∷ c .genus ∷
     c .lifts ∷ [])) o p n →

@@ -18,6 +18,7 @@ use Rattle.hypermap.proofs.Basics.Sums.{sumExt, keptOne, sumOfParts}
 use Rattle.hypermap.proofs.Hypermaps.Totals.{up}
 use Rattle.hypermap.proofs.Laws.Orbits.{orbitLaw}
 use Rattle.hypermap.proofs.Laws.Counts.{countLaw}
+use Rattle.table.specs.Limits.{maxCapacity, longestCanonical}
 use Rattle.table.specs.Layout.{Table, capacity, holdsHypermap, hypermapOf}
 use Rattle.table.specs.Commands.{Command, puts, joins}
 use Rattle.table.proofs.Holding.{tableHypermap, dartsFew}
@@ -121,7 +122,7 @@ tapeParts w =
 pub orbitsFew : (m : Hypermap) (c : Kind) → orbits m c ≤ length (m .darts)
 orbitsFew m c = keepShorter (isLeastIn (orbitOf m c)) (m .darts)
 
-pub tapeFits : (w : Table) → holdsHypermap w ≡ true → capacity w ≤ 4096 → length (tapeOf w) ≤ 53238
+pub tapeFits : (w : Table) → holdsHypermap w ≡ true → capacity w ≤ maxCapacity → length (tapeOf w) ≤ longestCanonical
 tapeFits w s room =
     let d = dartsFew w in
     let e = orbitsExist (hypermapOf w) (tableHypermap w s) (of edge) in

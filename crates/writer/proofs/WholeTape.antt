@@ -8,10 +8,11 @@ use lib.ListN.{length, length-append}
 use borrow.Author.Tests.{le-leb, lt-leb}
 use Rattle.hypermap.specs.Hypermap.{edge, vertex, of}
 use Rattle.hypermap.specs.Hypermap.{edges as edgesIn, vertices as verticesIn}
+use Rattle.table.specs.Limits.{maxCapacity}
 use Rattle.table.specs.Refusals.{shortRoom}
 use Rattle.table.specs.Layout.{Table, hypermapOf}
 use Rattle.table.proofs.Holding.{dartsFew}
-use Rattle.parts.specs.Inner.{WithinCapacity}
+use Rattle.table.specs.Inner.{WithinCapacity}
 use Rattle.tape.specs.Tapes.{tapeBytes}
 use Rattle.writer.specs.Canonical.{putsOf, joinsOf, tapeOf}
 use Rattle.writer.specs.Inner.{HasRoom, Lays, writtenOf, writtenLeaves}
@@ -27,7 +28,7 @@ module _
     (edges : e ≡ edgesIn (hypermapOf w))
     (vertices : v ≡ verticesIn (hypermapOf w))
   where
-    pub countsFew : (d ≤ 4096) × (e ≤ d) × (v ≤ d)
+    pub countsFew : (d ≤ maxCapacity) × (e ≤ d) × (v ≤ d)
     countsFew =
         omega (arith, dartsFew w, k .room, orbitsFew (hypermapOf w) (of edge), orbitsFew (hypermapOf w) (of vertex))
 

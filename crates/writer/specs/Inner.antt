@@ -7,14 +7,13 @@ use lib.Dec.{leb}
 use lib.ListN.{length, set, drop}
 use Rattle.hypermap.specs.Hypermap.{of}
 use Rattle.hypermap.specs.Hypermap as theory
+use Rattle.table.specs.Limits.{screenRoom}
 use Rattle.table.specs.Refusals.{shortRoom}
 use Rattle.table.specs.Layout.{Table, capacity, hypermapOf}
-use Rattle.table.specs.Inner.{HypermapAt}
+use Rattle.table.specs.Inner.{HypermapAt, WithinCapacity}
 use Rattle.parts.specs.Marks.{orbitMarks}
-use Rattle.parts.specs.Inner.{WithinCapacity}
 use Rattle.tape.specs.Tapes.{tapeBytes}
 use Rattle.writer.specs.Canonical.{orbitJoins, joinsOf}
-use Rattle.writer.specs.Screens.{screenRoom}
 use Rattle.writer.specs.declared.Written.{Written}
 
 -- WRITING. Bytes laid over a buffer from a place on
@@ -55,9 +54,9 @@ writtenOf bs o =
 unfoldable pub writtenLeaves : (tape out : List ℕ) → List ℕ
 writtenLeaves bs o = cond (leb (length bs) (length o)) (bs ++ drop (length bs) o) o
 
--- THE SCREEN. Room for a list of numbers of four bytes, and for its whole answer
+-- THE SCREEN. Room for at most ten numbers of four bytes, and for its whole answer
 pub record NumbersRoom (numbers out : List ℕ) : Type 0 where
-  pub few : length numbers ≤ 4096
+  pub few : length numbers ≤ 10
   pub room : 4 * length numbers ≤ length out
 
 pub record ScreenRoom (w : Table) (out : List ℕ) : Type 0 where

@@ -4,11 +4,13 @@ use mathlib.Core.Bool.{true}
 use Prim.Native.Nat.{_+_, _*_}
 use lib.ListN.{length, replicate}
 use Rattle.hypermap.specs.Hypermap.{edges, vertices}
-use Rattle.table.specs.Layout.{Table, wordsPerDart, capacity, holdsHypermap, hypermapOf}
+use Rattle.table.specs.Limits.{wordsPerDart}
+use Rattle.table.specs.Layout.{Table, capacity, holdsHypermap, hypermapOf}
 use Rattle.tape.specs.Runs.{Outcome, runOf}
 use Rattle.writer.specs.Canonical.{commandsOf, tapeOf}
 
--- the bytes of a canonical tape; with at most 4,096 darts there are at most 53,238 of them
+-- the bytes of a canonical tape; with as many darts as the greatest table has room for there are at most
+-- `longestCanonical` of them
 abbrev pub SizeLaw : Type 0
 SizeLaw =
     (w : Table) → holdsHypermap w ≡ true →

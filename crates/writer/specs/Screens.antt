@@ -10,10 +10,6 @@ use Rattle.tape.specs.Runs.{Outcome}
 use Rattle.writer.specs.Canonical.{tapeOf}
 use Rattle.tape.specs.declared.Run.{Run}
 
--- bytes that every answer fits: the ten numbers, and the longest tape of 4,096 darts
-abbrev pub screenRoom : ℕ
-screenRoom = 53278
-
 -- a number in four bytes, low byte first; a negative one in two's complement
 abbrev pub fourBytes : ℕ → List ℕ
 fourBytes n = n % 256 ∷ n / 256 % 256 ∷ n / 65536 % 256 ∷ n / 16777216 % 256 ∷ []

@@ -2,10 +2,10 @@
 // the tape is, so its room is judged before a byte is written. Linear in the table.
 ghost use mathlib.Core.Path.{_≡_};
 ghost use Prim.Native.Nat.{_+_, _*_, _-_, _≤_};
+ghost use Rattle.table.specs.Limits.{maxCapacity};
 ghost use Rattle.table.specs.Layout.{hypermapOf};
 ghost use Rattle.table.specs.Commands.{puts, joins};
-ghost use Rattle.table.specs.Inner.{dimensionOf};
-ghost use Rattle.parts.specs.Inner.{WithinCapacity};
+ghost use Rattle.table.specs.Inner.{dimensionOf, WithinCapacity};
 ghost use Rattle.tape.specs.Tapes.{bytesOf, numberBytes, tapeBytes, joinByte};
 ghost use Rattle.writer.specs.Canonical.{orbitJoins, joinsOf, putsOf, tapeOf};
 ghost use Rattle.writer.specs.Inner.{HasRoom, Lays, OrbitJoinsRoom, JoinsRoom, WriterMarks, writtenOf, writtenLeaves};
@@ -15,6 +15,8 @@ use parts::marks::mark_of;
 use parts::marks::mark_orbits;
 use table::Dimension;
 use table::Orbit;
+use table::limits::EDGE_NEXT;
+use table::limits::MAX_CAPACITY;
 use table::refusals;
 use table::walk;
 use table::words;
@@ -68,8 +70,8 @@ fn write_puts(table: &[u16], out: &mut [u8]) -> usize
     let n = words::capacity_of(table);
     let mut at = 0;
     let mut x: u16 = 1;
-    while words::wide(x) <= n {
-        if 0 < words::word(table, x, 0) {
+    while words::to_usize(x) <= n {
+        if 0 < words::word(table, x, EDGE_NEXT) {
             at = write_put(out, at, x);
         }
         x += 1;
@@ -101,7 +103,7 @@ fn write_joins(table: &[u16], d: Dimension, marks: &[u16], out: &mut [u8], from:
     let n = words::capacity_of(table);
     let mut at = from;
     let mut x: u16 = 1;
-    while words::wide(x) <= n {
+    while words::to_usize(x) <= n {
         if mark_of(marks, x) == x {
             at = write_orbit_joins(table, d, x, out, at);
         }
@@ -114,7 +116,7 @@ fn write_joins(table: &[u16], d: Dimension, marks: &[u16], out: &mut [u8], from:
 
 // Its bytes: a put for each dart, and a join for each dart that is not the least of its orbit.
 fn tape_size(darts: u32, edges: u32, vertices: u32) -> u32
-    requires { ⌜ (darts ≤ 4096) × (edges ≤ darts) × (vertices ≤ darts) ⌝ }
+    requires { ⌜ (darts ≤ maxCapacity) × (edges ≤ darts) × (vertices ≤ darts) ⌝ }
     ensures { λ r. ⌜ r + 5 * (edges + vertices) ≡ 13 * darts ⌝ }
 {
     let operand_bytes = operands::OPERAND_BYTES;
@@ -159,7 +161,7 @@ pub fn write_tape(table: &[u16], out: &mut [u8]) -> Written
     ensures out { λ r. ⌜ now (out .exit) ≡ writtenLeaves (tapeOf (now (table .entry))) (now (out .entry)) ⌝ }
 {
     let n = words::capacity_of(table);
-    let mut edge_marks = [0u16; 4096];
-    let mut vertex_marks = [0u16; 4096];
+    let mut edge_marks = [0u16; MAX_CAPACITY];
+    let mut vertex_marks = [0u16; MAX_CAPACITY];
     write_marked(table, &mut edge_marks[..n], &mut vertex_marks[..n], out)
 }

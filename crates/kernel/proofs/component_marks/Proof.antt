@@ -3,7 +3,8 @@ use mathlib.Core.Path.{refl, sym, _∙_}
 use native.Mathlib.Omega.{arith}
 use lib.Seq.{length-take-le}
 use Rattle.kernel.proofs.Answering.{listFirst, listShort, listWritten}
-use Rattle.kernel.proofs.Judging.{tablePassed, marksMany}
+use Rattle.soundness.proofs.Passing.{tablePassed}
+use Rattle.kernel.proofs.Judging.{marksMany}
 use Rattle.kernel.proofs.component_marks.Statement.{statement}
 use Rattle.kernel.proofs.component_marks.Tie as tie
 

@@ -3,6 +3,7 @@ use mathlib.Core.Path.{_≡_, sym, _∙_}
 use Prim.Native.Nat.{_+_, _-_}
 use native.Mathlib.Omega.{arith}
 use borrow.Author.Tests.{eq-eqb, ne-eqb}
+use Rattle.table.specs.Limits.{wordsPerDart}
 use Rattle.table.proofs.Holding.{low, high}
 use Rattle.kernel.specs.Calls.{lookOf}
 use Rattle.kernel.proofs.Judging.{dartsReady}
@@ -27,7 +28,7 @@ unfolding lookOf
 returns c =
     let t = c .before .before in
     let k = c .before .place-of .result in
-    let e : k + 4 - k ≡ 4 = omega arith in
+    let e : k + wordsPerDart - k ≡ wordsPerDart = omega arith in
     rw (eq-eqb _ _ (sym (t .before .darts-question-refusal .ensures) ∙ t .if1 .taken), e) (cc)
 
 returns-2 : tie.Need-returns-2

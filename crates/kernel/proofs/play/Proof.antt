@@ -1,7 +1,7 @@
 use borrow.Author.Needs.{needs}
 use mathlib.Core.Path.{sym, _∙_}
 use native.Mathlib.Omega.{arith}
-use Rattle.kernel.proofs.Judging.{tablePassed}
+use Rattle.soundness.proofs.Passing.{tableWithin}
 use Rattle.kernel.proofs.Tapes.{playLong, playBent, playRun}
 use Rattle.kernel.proofs.play.Statement.{statement}
 use Rattle.kernel.proofs.play.Tie as tie
@@ -18,8 +18,8 @@ play-requires : tie.Need-play-requires
 play-requires c κs =
     let e = c .before in
     let f = e .before in
-    let t = tablePassed _ (sym (f .table-refusal .ensures) ∙ e .if2 .left) in
-    record { table = record { hypermap = t .hypermap; room = t .room }; short = omega (arith, f .before .before .if1 .left) }
+    let t = tableWithin _ (sym (f .table-refusal .ensures) ∙ e .if2 .left) in
+    record { table = t; short = omega (arith, f .before .before .if1 .left) }
 
 returns-3 : tie.Need-returns-3
 returns-3 c =

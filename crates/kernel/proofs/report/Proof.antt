@@ -1,7 +1,7 @@
 use borrow.Author.Needs.{needs}
 use mathlib.Core.Path.{sym, _∙_}
 use Rattle.kernel.proofs.Answering.{reportStopped, givenReport}
-use Rattle.kernel.proofs.Judging.{tablePassed}
+use Rattle.soundness.proofs.Passing.{tableWithin}
 use Rattle.kernel.proofs.report.Statement.{statement}
 use Rattle.kernel.proofs.report.Tie as tie
 
@@ -11,9 +11,7 @@ returns c =
     c .refused-totals .ensures ∙ reportStopped _ _ _ (t .before .table-refusal .ensures) (t .if1 .taken)
 
 counts-requires : tie.Need-counts-requires
-counts-requires c κs =
-    let t = tablePassed _ (sym (c .before .table-refusal .ensures) ∙ c .if1 .left) in
-    record { hypermap = t .hypermap; room = t .room }
+counts-requires c κs = tableWithin _ (sym (c .before .table-refusal .ensures) ∙ c .if1 .left)
 
 returns-2 : tie.Need-returns-2
 returns-2 c =

@@ -1,5 +1,6 @@
 use borrow.Author.Needs.{needs}
 use mathlib.Core.Path.{sym, _∙_}
+use Rattle.table.proofs.Reading.{numberSmall}
 use Rattle.kernel.specs.Calls.{sameAnswer}
 use Rattle.kernel.proofs.Answering.{answerStopped, givenAnswer}
 use Rattle.kernel.proofs.Judging.{dartsReady}
@@ -12,14 +13,40 @@ returns c =
     let t = c .before in
     c .refused .ensures ∙ answerStopped _ _ _ _ (t .before .darts-question-refusal .ensures) (t .if1 .taken)
 
+to-word-requires : tie.Need-to-word-requires
+to-word-requires c κs =
+    let r = dartsReady _ _ _ (sym (c .before .darts-question-refusal .ensures) ∙ c .if1 .left) in
+    numberSmall _ _ (r .room) (r .both .first)
+
+to-word-requires-2 : tie.Need-to-word-requires-2
+to-word-requires-2 c κs =
+    let t = c .before in
+    let r = dartsReady _ _ _ (sym (t .before .darts-question-refusal .ensures) ∙ t .if1 .left) in
+    numberSmall _ _ (r .room) (r .both .second)
+
 is-same-requires : tie.Need-is-same-requires
-is-same-requires c κs = dartsReady _ _ _ (sym (c .before .darts-question-refusal .ensures) ∙ c .if1 .left)
+is-same-requires c κs =
+    let t = c .before .before in
+    rw (c .before .to-word .ensures, c .to-word2 .ensures)
+    (dartsReady _ _ _ (sym (t .before .darts-question-refusal .ensures) ∙ t .if1 .left))
 
 returns-2 : tie.Need-returns-2
 unfolding sameAnswer
 returns-2 c =
-    let t = c .before in
-    rw (c .is-same .ensures) (givenAnswer _ _ _ _ (t .before .darts-question-refusal .ensures) (t .if1 .left))
+    let b = c .before in
+    let a = b .before in
+    let t = a .before in
+    rw (c .is-same .ensures, a .to-word .ensures, b .to-word2 .ensures)
+    (givenAnswer _ _ _ _ (t .before .darts-question-refusal .ensures) (t .if1 .left))
 
 pub same-spec : {M : Type 1} → statement M
-same-spec = tie.close (tie.spec (λ c κs. search needs) (λ c κs. search needs) returns is-same-requires returns-2)
+same-spec =
+    tie.close
+    (tie.spec
+    (λ c κs. search needs)
+    (λ c κs. search needs)
+    returns
+    to-word-requires
+    to-word-requires-2
+    is-same-requires
+    returns-2)

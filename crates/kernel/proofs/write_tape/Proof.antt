@@ -1,7 +1,7 @@
 use borrow.Author.Needs.{needs}
 use mathlib.Core.Path.{sym, _∙_}
 use Rattle.kernel.proofs.Answering.{listFirst}
-use Rattle.kernel.proofs.Judging.{tablePassed}
+use Rattle.soundness.proofs.Passing.{tableWithin}
 use Rattle.kernel.proofs.Tapes.{tapeWritten}
 use Rattle.kernel.proofs.write_tape.Statement.{statement}
 use Rattle.kernel.proofs.write_tape.Tie as tie
@@ -13,9 +13,7 @@ returns c =
 
 write-tape-requires : tie.Need-write-tape-requires
 write-tape-requires c κs =
-    let e = c .before in
-    let t = tablePassed _ (sym (e .before .table-refusal .ensures) ∙ e .if1 .left) in
-    record { hypermap = t .hypermap; room = t .room }
+    let e = c .before in tableWithin _ (sym (e .before .table-refusal .ensures) ∙ e .if1 .left)
 
 returns-2 : tie.Need-returns-2
 returns-2 c =

@@ -1,11 +1,12 @@
 use native.Mathlib.Omega.{arith}
+use Rattle.table.specs.Limits.{maxCapacity}
 use Rattle.tape.proofs.Running.{zerosWithin}
 use borrow.Author.Needs.{needs}
 use Rattle.plan.proofs.main.Statement.{statement}
 use Rattle.plan.proofs.main.Tie as tie
 
 run-requires : tie.Need-run-requires
-run-requires c κs = zerosWithin 4096 (omega arith)
+run-requires c κs = zerosWithin maxCapacity (omega arith)
 
 pub main-spec : {M : Type 1} → statement M
 main-spec =

@@ -28,13 +28,13 @@ same-length-2 c =
     let k = c .before .before in
     k .end-refused .kept .0 ∙ k .before .before .before .before .before .before .before .before .loop .inv .room
 
-perform-requires : tie.Need-perform-requires Inv-loop μ-loop
-perform-requires c κs = c .before .before .before .before .before .before .before .loop .inv .table
+take-step-requires : tie.Need-take-step-requires Inv-loop μ-loop
+take-step-requires c κs = c .before .before .before .before .before .before .before .loop .inv .table
 
 same-length-3 : tie.Need-same-length-3 Inv-loop μ-loop
 same-length-3 c =
     let p = c .before .before .before .before .before .before .before in
-    p .perform .kept .0 ∙ p .before .before .before .before .before .before .before .before .loop .inv .size
+    p .take-step .kept .0 ∙ p .before .before .before .before .before .before .before .before .loop .inv .size
 
 same-length-4 : tie.Need-same-length-4 Inv-loop μ-loop
 same-length-4 c =
@@ -47,7 +47,7 @@ write-accepted-requires c κs =
     let p = c .before .before .before .before .before in
     let r = p .before .before .before in
     let h = r .before .before .before .before .before .loop .inv in
-    replyingTable h _ _ _ _ _ (r .reading .given .1) (p .perform .ensures .1)
+    replyingTable h _ _ _ _ _ (r .reading .given .1) (p .take-step .ensures .1)
 
 sub-rest : tie.Need-sub-rest Inv-loop μ-loop
 sub-rest c =
@@ -70,7 +70,7 @@ loop-again c =
     let p = a .before .before .before .before .before .before in
     let r = p .before .before .before in
     let h = r .before .before .before .before .before .loop .inv in
-    replyingOn h _ _ _ _ _ (r .reading .given .1) (p .perform .ensures .1) _ (a .write-accepted .kept .1 .1 .0)
+    replyingOn h _ _ _ _ _ (r .reading .given .1) (p .take-step .ensures .1) _ (a .write-accepted .kept .1 .1 .0)
 
 same-length-5 : tie.Need-same-length-5 Inv-loop μ-loop
 same-length-5 c = c .before .before .before .loop .inv .size
@@ -93,7 +93,7 @@ run-spec =
     same-length
     same-length-2
     (λ c. search needs)
-    perform-requires
+    take-step-requires
     (λ c κs. search needs)
     same-length-3
     same-length-4

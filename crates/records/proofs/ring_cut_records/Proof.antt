@@ -40,6 +40,7 @@ use denote.Triple.Table.{entered, cited}
 use denote.Triple.Walked.{Stays, stay-dropped, gave-slice, walkOf, goes-dropped, goes-gave-slice, Walks, ends-at}
 use denote.Triple.Walked.{walked, walk-meets}
 use denote.Exit.{yes}
+use Rattle.table.specs.Limits.{maxRing}
 use Rattle.records.specs.declared.DoubleLink.{DoubleLink}
 use Rattle.kernel.specs.Calls.{ringCallRefusal, ringCallLeaves}
 use Rattle.records.specs.Records.{fitted, BeginsWith}
@@ -130,10 +131,10 @@ module _ {M : Type 1} (𝓤 : URA M) (H : Heap 𝓤) (A : Atoms 𝓤) (W : Given
 
   goes-cut :
       (ws : List ℕ) (a : Val) → n < 2 ^ 64 →
-      ent 𝓤 (⋆ 𝓤 H A (‵ (Array u16 4096 .own ws (a ∷ [])) ∷ ‵ (flft κ q) ∷ ‵ Table ∷ []))
+      ent 𝓤 (⋆ 𝓤 H A (‵ (Array u16 maxRing .own ws (a ∷ [])) ∷ ‵ (flft κ q) ∷ ‵ Table ∷ []))
       (Cut 𝓤 H A mem run .pre (to-cut ws a))
   goes-cut ws a g =
-      qed W (‵ (Array u16 4096 .own ws (a ∷ [])) ∷ ‵ (flft κ q) ∷ ‵ Table ∷ []) ∵ nothing ! $
+      qed W (‵ (Array u16 maxRing .own ws (a ∷ [])) ∷ ‵ (flft κ q) ∷ ‵ Table ∷ []) ∵ nothing ! $
       owned ! usize (Is usize) (uint-makes 𝓤 H A W w64) n _ (refl, g) $ fjoin ! $
       move ! (1 ∷ 0 ∷ []) $ fjoin ! $ move ! (2 ∷ 0 ∷ []) $ fjoin ! $ nothing ! $ move ! (2 ∷ 0 ∷ []) $ join ! $
       join ! $ frame ! $ done !
@@ -184,14 +185,14 @@ module _ {M : Type 1} (𝓤 : URA M) (H : Heap 𝓤) (A : Atoms 𝓤) (W : Given
         -- [what `flatten` asks; the table's token; …; what the table owns; _6; …]
         calls-at ! fm (Flatten 𝓤 H A mem run) known-flatten to-flatten (and-then ! (local ! 12 refl)
         (no-more !)) (λ a.
-        use1 W (later (some (λ (ws : List ℕ). ((‵ (flft κ′ q′) ⊛ ‵ ftrue) ⊛ ‵ (Array u16 4096 .own ws (a ∷ []))) ⊛
+        use1 W (later (some (λ (ws : List ℕ). ((‵ (flft κ′ q′) ⊛ ‵ ftrue) ⊛ ‵ (Array u16 maxRing .own ws (a ∷ []))) ⊛
         raw (ensured 𝓤 H A flatten.ended (flatten.clauses 𝓤 H A mem run) (κ′, tt) (s, tt) tt ws)))) (id⊢ 𝓤 _) $
         await ! tt $ pick ! (λ ws.
         split ! $ move ! (1 ∷ []) $ use1 W (raw (fact 𝓤 (Flat ws))) (flatten-said ws) $
         heard ! (Flat ws) (λ e. split ! $ move ! (1 ∷ []) $
         -- [what the words own; the ring's token; the table's token; …; what the table owns; _6; …]
-        peeks ! (Array u16 4096) (Is (Array u16 4096)) (shows 𝓤 H A (Array u16 4096)) ws (a ∷ []) (λ is.
-        land ! (here !) (init ! 7 refl (array-lawful 𝓤 H A W u16 (uint-lawful 𝓤 H A W w16) 4096 .typed ws _ is .0)) $
+        peeks ! (Array u16 maxRing) (Is (Array u16 maxRing)) (shows 𝓤 H A (Array u16 maxRing)) ws (a ∷ []) (λ is.
+        land ! (here !) (init ! 7 refl (array-lawful 𝓤 H A W u16 (uint-lawful 𝓤 H A W w16) maxRing .typed ws _ is .0)) $
         assigns ! (of-opd ! (load ! (from ! (fld ! refl (stop !))) (look-in ! 13 (sub ! 1 refl (whole !))))) (here !)
         (init ! 5 refl (tt, record { fits = p .0 .1 .0 })) $
         move ! (0 ∷ 2 ∷ 4 ∷ []) $ use3 W (raw (Cut 𝓤 H A mem run .pre (to-cut ws a))) (goes-cut ws a (p .0 .1 .0)) $

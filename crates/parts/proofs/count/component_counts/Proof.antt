@@ -3,6 +3,7 @@ use native.Mathlib.Omega.{arith}
 use borrow.Author.Needs.{needs}
 use Rattle.hypermap.specs.Hypermap.{faces, components, componentAt}
 use Rattle.hypermap.proofs.Laws.ComponentGenus.{isConnected}
+use Rattle.table.specs.Limits.{maxCapacity}
 use Rattle.table.specs.Layout.{hypermapOf}
 use Rattle.table.proofs.Holding.{memPresent, tableHypermap}
 use Rattle.parts.specs.Counts.{lifts, countsOf}
@@ -19,14 +20,14 @@ module _ (f : tie.After-flood) where
 
   set : MarkedSet (s .args .table .now) (f .flood .last .1 .1 .1 .0) 1
   set =
-      componentSet _ (s .pre .at .hypermap) (s .pre .room) 4096 (s .pre .room) _ (f .flood .kept .1 .1 .1 .0) _
+      componentSet _ (s .pre .at .hypermap) (s .pre .room) maxCapacity (s .pre .room) _ (f .flood .kept .1 .1 .1 .0) _
       (s .pre .at .here) (f .flood .ensures .1)
 
   is :
       markedIn (s .args .table .now) (f .flood .last .1 .1 .1 .0) 1 ≡
       componentAt (hypermapOf (s .args .table .now)) (s .args .x)
   is =
-      componentIs _ (s .pre .at .hypermap) (s .pre .room) 4096 (s .pre .room) _ (f .flood .kept .1 .1 .1 .0) _
+      componentIs _ (s .pre .at .hypermap) (s .pre .room) maxCapacity (s .pre .room) _ (f .flood .kept .1 .1 .1 .0) _
       (s .pre .at .here) (f .flood .ensures .1)
 
   one : components (componentAt (hypermapOf (s .args .table .now)) (s .args .x)) ≡ 1
@@ -37,7 +38,7 @@ module _ (f : tie.After-flood) where
 flood-requires : tie.Need-flood-requires
 flood-requires c κs =
     let p = c .before .before .before .before .pre in
-    unmarkedZeros _ _ _ (p .at) (omega arith) 4096 (p .room) (p .room)
+    unmarkedZeros _ _ _ (p .at) (omega arith) maxCapacity (p .room) (p .room)
 
 marked-counts-requires : tie.Need-marked-counts-requires
 marked-counts-requires c κs =

@@ -1,6 +1,7 @@
 use mathlib.Core.Path.{_≡_, ap, sym, _∙_}
 use borrow.Author.Needs.{needs}
 use Rattle.hypermap.specs.Hypermap.{faces, components}
+use Rattle.table.specs.Limits.{maxCapacity}
 use Rattle.table.specs.Layout.{hypermapOf}
 use Rattle.parts.specs.Counts.{lifts, countsOf}
 use Rattle.parts.specs.Inner.{MarkedSet, markedIn, floodedOf}
@@ -15,12 +16,12 @@ module _ (f : tie.After-flood-all) where
 
   set : MarkedSet (s .args .table .now) (f .flood-all .last .1 .0) 1
   set =
-      allSet _ (s .pre .hypermap) (s .pre .room) 4096 (s .pre .room) _ (f .flood-all .kept .1 .0)
+      allSet _ (s .pre .hypermap) (s .pre .room) maxCapacity (s .pre .room) _ (f .flood-all .kept .1 .0)
       (f .flood-all .ensures .1)
 
   is : markedIn (s .args .table .now) (f .flood-all .last .1 .0) 1 ≡ hypermapOf (s .args .table .now)
   is =
-      allIs _ (s .pre .hypermap) (s .pre .room) 4096 (s .pre .room) _ (f .flood-all .kept .1 .0) (f .flood-all .ensures .1)
+      allIs _ (s .pre .hypermap) (s .pre .room) maxCapacity (s .pre .room) _ (f .flood-all .kept .1 .0) (f .flood-all .ensures .1)
 
 marked-counts-requires : tie.Need-marked-counts-requires
 unfolding floodedOf

@@ -4,6 +4,7 @@ use native.Mathlib.Omega.{arith}
 use lib.ListN.{length}
 use borrow.Author.Needs.{needs}
 use Rattle.hypermap.specs.Hypermap.{Hypermap, faces, componentAt}
+use Rattle.table.specs.Limits.{maxCapacity}
 use Rattle.table.specs.Layout.{capacity, hypermapOf}
 use Rattle.parts.specs.Counts.{lifts}
 use Rattle.parts.specs.Inner.{floodedOf}
@@ -15,7 +16,7 @@ use Rattle.parts.proofs.count.flood_all.Tie as tie
 
 abbrev Inv-loop : tie.InvT-loop
 Inv-loop table marks₀ queue₀ n components₀ lifts₀ faces₀ x₀ marks queue components lifts faces x =
-    FloodingAll table x components lifts faces marks × (length queue ≡ 4096)
+    FloodingAll table x components lifts faces marks × (length queue ≡ maxCapacity)
 
 abbrev μ-loop : tie.MeasureT-loop
 μ-loop table marks₀ queue₀ n components₀ lifts₀ faces₀ x₀ marks queue components lifts faces x = n + 1 - x
@@ -63,7 +64,7 @@ module _ (c : tie.After-flood Inv-loop μ-loop) where
   below : l .loop .x ≤ capacity (start l .args .table .now)
   below = omega arith
 
-  few : (l .loop .lifts + lifts m ≤ 4096) × (l .loop .faces + faces m ≤ 4096)
+  few : (l .loop .lifts + lifts m ≤ maxCapacity) × (l .loop .faces + faces m ≤ maxCapacity)
   few =
       allFew _ (start l .pre .0) _ _ _ _ _
       (allFresh _ (start l .pre .0) _ _ _ _ _ (l .loop .inv .0) (omega arith)

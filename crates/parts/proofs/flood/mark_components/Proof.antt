@@ -5,6 +5,7 @@ use native.Mathlib.Omega.{arith}
 use lib.ListN.{length, replicate}
 use borrow.Author.Needs.{needs}
 use Rattle.hypermap.specs.Hypermap.{componentOf}
+use Rattle.table.specs.Limits.{maxCapacity}
 use Rattle.table.specs.Layout.{hypermapOf}
 use Rattle.table.proofs.Holding.{low}
 use Rattle.parts.proofs.Marking.{Passed, passedMark, freshMarking, freshPart, passedOther}
@@ -15,7 +16,7 @@ use Rattle.parts.proofs.flood.mark_components.Tie as tie
 
 abbrev Inv-loop : tie.InvT-loop
 Inv-loop table marks₀ queue₀ n count₀ x₀ marks queue count x =
-    Passed table (leastSweep table (componentOf (hypermapOf table))) x count marks × (length queue ≡ 4096)
+    Passed table (leastSweep table (componentOf (hypermapOf table))) x count marks × (length queue ≡ maxCapacity)
 
 abbrev μ-loop : tie.MeasureT-loop
 μ-loop table marks₀ queue₀ n count₀ x₀ marks queue count x = n + 1 - x

@@ -51,6 +51,7 @@ use denote.Triple.Spec.{Meets, tripleOf}
 use denote.Triple.Table.{entered, cited}
 use denote.Triple.Walked.{says, Stays, stay-dropped, walkOf, goes-dropped, Walks, ends-at, walked, walk-meets}
 use denote.Exit.{yes}
+use Rattle.table.specs.Limits.{maxDoubleLinks, maxRing}
 use Rattle.records.specs.declared.DoubleLink.{DoubleLink}
 use Rattle.records.specs.Records.{fitted, wordsOf, BeginsWith}
 use Rattle.records.proofs.Locals.{here, local}
@@ -105,9 +106,9 @@ module _ {M : Type 1} (𝓤 : URA M) (H : Heap 𝓤) (A : Atoms 𝓤) (W : Given
 
   exits :
       (ws : List ℕ) → BeginsWith ws ls →
-      ent 𝓤 (⋆ 𝓤 H A (‵ (Array u16 4096 .own ws (avals ws)) ∷ (‵ (flft κ q) ⊛ ‵ ftrue) ∷ [])) (Post (aval ws))
+      ent 𝓤 (⋆ 𝓤 H A (‵ (Array u16 maxRing .own ws (avals ws)) ∷ (‵ (flft κ q) ⊛ ‵ ftrue) ∷ [])) (Post (aval ws))
   exits ws e =
-      qed W (‵ (Array u16 4096 .own ws (avals ws)) ∷ (‵ (flft κ q) ⊛ ‵ ftrue) ∷ []) ∵
+      qed W (‵ (Array u16 maxRing .own ws (avals ws)) ∷ (‵ (flft κ q) ⊛ ‵ ftrue) ∷ []) ∵
       suffices ! _ (ends-at 𝓤 H A flatten.ended stayed (flatten.clauses 𝓤 H A mem run) W
       (((κ, tt), (q, tt), tt, (s, tt), (v ∷ [], tt)), tt) (aval ws) ws (tt, tt) (tt, tt)) $ says ! e $
       move ! (1 ∷ []) $ frame ! $ nothing ! $ nothing ! $ fjoin ! $ frame ! $ done !
@@ -135,7 +136,7 @@ module _ {M : Type 1} (𝓤 : URA M) (H : Heap 𝓤) (A : Atoms 𝓤) (W : Given
     word = tyInt w64
 
     abbrev arr₀ : Ty
-    arr₀ = tyArray (tyInt w16) 4096
+    arr₀ = tyArray (tyInt w16) maxRing
 
     abbrev slice : Ty
     slice = sliceTy (tyRef (named 0) imm (pointee (X.the-row .written)))
@@ -163,7 +164,7 @@ module _ {M : Type 1} (𝓤 : URA M) (H : Heap 𝓤) (A : Atoms 𝓤) (W : Given
         (‵ (fobor κ q (arr-parts (shares X.the-row) n .part q′ ls b o)) ∷ deaths En)
 
     abbrev Facts : ℕ → ℕ → List ℕ → Type 0
-    Facts t i ws = (i + t ≡ m) × ((length ws ≡ 4096) × (take (2 * i) ws ≡ wordsOf (take i ls)))
+    Facts t i ws = (i + t ≡ m) × ((length ws ≡ maxRing) × (take (2 * i) ws ≡ wordsOf (take i ls)))
 
     -- where t double-links are left: i are copied, and the words are ws
     abbrev Held : ℕ → ℕ → List ℕ → Item 𝓤
@@ -199,12 +200,12 @@ module _ {M : Type 1} (𝓤 : URA M) (H : Heap 𝓤) (A : Atoms 𝓤) (W : Given
         assigns ! (bin ! (local ! 1 refl) (local ! 4 refl) tt) (here !) (init ! 7 refl (tt, tt)) $
         rewrite ! 7 (λ (t : Bool). ‵ (fat fullShare tyBool l₈ 0 (vbool t))) (le-ltb i m (omega (arith, f .0))) refl $
         leaves-loop ! (local ! 7 refl) $ exec ! C Λ En parts.t-6 (atRet En Post) $
-        use1 W (‵ (fat fullShare arr₀ l₃ 0 (aval ws)) ⊛ ‵ (Array u16 4096 .own ws (avals ws)))
-        (together 𝓤 H A W 4096 l₃ ws (f .1 .0)) $ split ! $ move ! (1 ∷ []) $
-        peeks ! (Array u16 4096) (Is (Array u16 4096)) (shows 𝓤 H A (Array u16 4096)) ws (avals ws) (λ is.
+        use1 W (‵ (fat fullShare arr₀ l₃ 0 (aval ws)) ⊛ ‵ (Array u16 maxRing .own ws (avals ws)))
+        (together 𝓤 H A W maxRing l₃ ws (f .1 .0)) $ split ! $ move ! (1 ∷ []) $
+        peeks ! (Array u16 maxRing) (Is (Array u16 maxRing)) (shows 𝓤 H A (Array u16 maxRing)) ws (avals ws) (λ is.
         -- [what the array owns; _3; _4; the double-links; _1; …; _0; _7; the open borrow; …]
         assigns ! (of-opd ! (local ! 1 refl)) (here !)
-        (init ! 17 refl (array-lawful 𝓤 H A W u16 (uint-lawful 𝓤 H A W w16) 4096 .typed ws (avals ws) is .0)) $
+        (init ! 17 refl (array-lawful 𝓤 H A W u16 (uint-lawful 𝓤 H A W w16) maxRing .typed ws (avals ws) is .0)) $
         move ! (3 ∷ 19 ∷ []) $ shuts-slice ! tt X.the-row q′ ls b o $
         -- [the token; what the array owns; _3; _4; _1; _2; _5; _6; _8; …; _16; _0; _7; …]
         returns ! (look ! 17 refl) $ forget ! 2 refl $ forget ! 3 refl $ forget ! 4 refl $ forget ! 5 refl $
@@ -305,7 +306,7 @@ module _ {M : Type 1} (𝓤 : URA M) (H : Heap 𝓤) (A : Atoms 𝓤) (W : Given
         small : i < m
         small = omega (arith, f .0)
 
-        under : i < 2048
+        under : i < maxDoubleLinks
         under = omega (arith, small, fittedKept n .0)
 
         within : i < n
@@ -323,7 +324,7 @@ module _ {M : Type 1} (𝓤 : URA M) (H : Heap 𝓤) (A : Atoms 𝓤) (W : Given
         one-more : i + 1 ≡ suc i
         one-more = omega arith
 
-        long : length ws₂ ≡ 4096
+        long : length ws₂ ≡ maxRing
         long = length-set ws₁ (j + 1) (link .second) ∙ length-set ws j (link .first) ∙ f .1 .0
 
         kept : Facts t (suc i) ws₂
@@ -336,11 +337,11 @@ module _ {M : Type 1} (𝓤 : URA M) (H : Heap 𝓤) (A : Atoms 𝓤) (W : Given
 
     -- the loop, from no double-link copied
     enters :
-        Sq W (‵ (row u16 fullShare (replicate 4096 0) l₃ 0) ∷ ‵ (fat fullShare word l₄ 0 (vint w64 0)) ∷ Frame)
+        Sq W (‵ (row u16 fullShare (replicate maxRing 0) l₃ 0) ∷ ‵ (fat fullShare word l₄ 0 (vint w64 0)) ∷ Frame)
         (runs C Λ En parts.t-5 (atRet En Post))
     enters =
-        use2 W (Inv m) (packs m 0 (replicate 4096 0)
-        (zero-add m, (length-replicate {A = ℕ} 4096 0, sym wordsOfNone))) $
+        use2 W (Inv m) (packs m 0 (replicate maxRing 0)
+        (zero-add m, (length-replicate {A = ℕ} maxRing 0, sym wordsOfNone))) $
         first ! $ blocks ! $ loops ! 𝓣 _<_ (Nat·lt-wfRel .wf) I turn m
 
   -- the code up to the loop
@@ -369,9 +370,9 @@ module _ {M : Type 1} (𝓤 : URA M) (H : Heap 𝓤) (A : Atoms 𝓤) (W : Given
       land ! (here !) (init ! 28 refl (uint-lawful 𝓤 H A W w64 .typed r _ is .0)) $
       rewrite ! 28 (λ (w : Val). ‵ (fat fullShare (tyInt w64) l₂ 0 w)) (ap only (is .0) ∙ ap (vint w64) e) refl $
       -- the array of zeros, in memory as a row
-      assigns ! (rep ! 4096 (lit ! tt)) (here !) (init ! 26 refl (zeros-typed 𝓤 H A W 4096 l₃)) $
+      assigns ! (rep ! maxRing (lit ! tt)) (here !) (init ! 26 refl (zeros-typed 𝓤 H A W maxRing l₃)) $
       assigns ! (of-opd ! (lit ! tt)) (here !) (init ! 24 refl (tt, record { fits = lit< tt })) $
-      move ! (26 ∷ []) $ use1 W (‵ (row u16 fullShare (replicate 4096 0) l₃ 0)) (zeros-apart 𝓤 H A W 4096 l₃) $
+      move ! (26 ∷ []) $ use1 W (‵ (row u16 fullShare (replicate maxRing 0) l₃ 0)) (zeros-apart 𝓤 H A W maxRing l₃) $
       -- of what `ring` owns the fractured borrow is looked into
       move ! (35 ∷ []) $ fsplit ! $ fsplit ! $ drop ! $ fsplit ! $ drop ! $ move ! (36 ∷ []) $ split ! $
       move ! (2 ∷ 0 ∷ []) $

@@ -13,13 +13,13 @@ returns c =
     let n = c .before in
     twoOff _ _ _ (n .before .is-number .ensures) (n .is-number2 .ensures) (c .if1 .taken)
 
-word-requires : tie.Need-word-requires
-word-requires c κs =
+is-dart-requires : tie.Need-is-dart-requires
+is-dart-requires c κs =
     let t = andLeft _ _ (not-false _ (c .if1 .left)) in
     inTable _ _ _ (sym (c .before .before .is-number .ensures) ∙ t) (omega arith)
 
-word-requires-2 : tie.Need-word-requires-2
-word-requires-2 c κs =
+is-dart-requires-2 : tie.Need-is-dart-requires-2
+is-dart-requires-2 c κs =
     let n = c .before .before in
     let t = andRight (n .before .is-number .result) _ (not-false _ (c .before .if1 .left)) in
     inTable _ _ _ (sym (n .is-number2 .ensures) ∙ t) (omega arith)
@@ -37,7 +37,7 @@ darts-refusal-spec =
     (λ c κs. search needs)
     (λ c κs. search needs)
     returns
-    word-requires
-    word-requires-2
+    is-dart-requires
+    is-dart-requires-2
     (λ c κs. search needs)
     returns-2)

@@ -5,7 +5,7 @@ use Rattle.tape.proofs.decode.number_or_zero.Tie as tie
 
 returns : tie.Need-returns
 unfolding numberAt
-returns c = cc
+returns c = (cc, c .number-of-bytes .ensures .1)
 
 pub number-or-zero-spec : {M : Type 1} → statement M
 number-or-zero-spec =

@@ -1,4 +1,5 @@
 use borrow.Author.Needs.{needs}
+use mathlib.Core.Path.{_∙_}
 use Prim.Native.Nat.{_-_}
 use native.Mathlib.Omega.{arith}
 use lib.ListN.{length, length-set}
@@ -20,8 +21,9 @@ loop-less c = rw length-set (omega arith)
 
 loop-again : tie.Need-loop-again Inv-loop μ-loop
 loop-again c =
-    let t = c .before in
-    fillsOn (t .before .loop .inv) (t .loop-test .taken) (c .number-or-zero .ensures)
+    let n = c .before in
+    let t = n .before in
+    fillsOn (t .before .loop .inv) (t .loop-test .taken) (c .to-word .ensures ∙ n .number-or-zero .ensures .0)
 
 pub read-numbers-spec : {M : Type 1} → statement M
 read-numbers-spec =
@@ -33,6 +35,7 @@ read-numbers-spec =
     (λ c. search needs)
     (λ c. search needs)
     number-or-zero-requires
+    (λ c κs. search needs)
     (λ c. search needs)
     (λ c. search needs)
     (λ c. search needs)

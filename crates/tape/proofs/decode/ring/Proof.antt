@@ -13,8 +13,8 @@ add-size : tie.Need-add-size
 add-size c = let h = commandSmall 8 in let e = c .before .command-size .ensures in search needs
 
 sized :
-    (c : tie.After-wide) →
-    Sized (c .before .before .before .before .args .tape .now) (c .before .command-size .result + 4 * c .wide .result)
+    (c : tie.After-byte-to-usize) →
+    Sized (c .before .before .before .before .args .tape .now) (c .before .command-size .result + 4 * c .byte-to-usize .result)
 sized c = ringSized (c .before .before .before .before .pre .0) (cc)
 
 returns-2 : tie.Need-returns-2

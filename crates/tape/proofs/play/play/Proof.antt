@@ -30,15 +30,15 @@ returns c =
     let d = e .before .before in
     let l = d .before .before .before in
     playingRefused _ _ _ _ _ (l .loop .inv) (d .before .before .loop-test .taken) _ (d .read .ensures) _ _
-    (e .enum-told .given .1) (c .number-of .ensures)
+    (e .enum-told .given .1) (c .refusal-in .ensures)
 
-perform-requires : tie.Need-perform-requires Inv-loop μ-loop
-perform-requires c κs = c .before .before .before .before .before .before .before .loop .inv .table
+take-step-requires : tie.Need-take-step-requires Inv-loop μ-loop
+take-step-requires c κs = c .before .before .before .before .before .before .before .loop .inv .table
 
 same-length-2 : tie.Need-same-length-2 Inv-loop μ-loop
 same-length-2 c =
     let p = c .before .before .before in
-    p .perform .kept .0 ∙ p .before .before .before .before .before .before .before .before .loop .inv .size
+    p .take-step .kept .0 ∙ p .before .before .before .before .before .before .before .before .loop .inv .size
 
 returns-2 : tie.Need-returns-2 Inv-loop μ-loop
 returns-2 c =
@@ -47,7 +47,7 @@ returns-2 c =
     let d = r .before .before in
     let l = d .before .before .before in
     playingStopped _ _ _ _ _ (l .loop .inv) (d .before .before .loop-test .taken) _ (d .read .ensures) _ _
-    (r .reading .given .1) _ (p .perform .ensures .0) _ (p .perform .ensures .1) (c .if1 .taken)
+    (r .reading .given .1) _ (p .take-step .ensures .0) _ (p .take-step .ensures .1) (c .if1 .taken)
 
 sub-rest : tie.Need-sub-rest Inv-loop μ-loop
 sub-rest c =
@@ -77,7 +77,7 @@ loop-again c =
     let d = r .before .before in
     let l = d .before .before .before in
     playingOn _ _ _ _ _ (l .loop .inv) (d .before .before .loop-test .taken) _ (d .read .ensures) _ _
-    (r .reading .given .1) _ (p .perform .ensures .0) _ (p .perform .ensures .1) (c .before .if1 .left)
+    (r .reading .given .1) _ (p .take-step .ensures .0) _ (p .take-step .ensures .1) (c .before .if1 .left)
 
 same-length-3 : tie.Need-same-length-3 Inv-loop μ-loop
 same-length-3 c = c .before .loop .inv .size
@@ -98,7 +98,7 @@ play-spec =
     (λ c κs. search needs)
     same-length
     returns
-    perform-requires
+    take-step-requires
     same-length-2
     returns-2
     sub-rest
