@@ -44,119 +44,131 @@ pub struct Needs {
     pub words: u32,
 }
 
-mod c {
-    use super::{Answer, Needs, Run, Totals};
-
-    extern "C" {
-        pub fn lotskadi_put(table: *mut u16, words: usize, tab: u32) -> u8;
-        pub fn lotskadi_take_out(table: *mut u16, words: usize, tab: u32) -> u8;
-        pub fn lotskadi_edge_join(table: *mut u16, words: usize, a: u32, b: u32) -> u8;
-        pub fn lotskadi_vertex_join(table: *mut u16, words: usize, a: u32, b: u32) -> u8;
-        pub fn lotskadi_edge_cut(table: *mut u16, words: usize, a: u32, b: u32) -> u8;
-        pub fn lotskadi_vertex_cut(table: *mut u16, words: usize, a: u32, b: u32) -> u8;
-        pub fn lotskadi_ring_cut(table: *mut u16, words: usize, ring: *const u16, ring_words: usize) -> u8;
-        pub fn lotskadi_report(table: *const u16, words: usize) -> Totals;
-        pub fn lotskadi_component_report(table: *const u16, words: usize, tab: u32) -> Totals;
-        pub fn lotskadi_same_edge(table: *const u16, words: usize, a: u32, b: u32) -> Answer;
-        pub fn lotskadi_same_vertex(table: *const u16, words: usize, a: u32, b: u32) -> Answer;
-        pub fn lotskadi_same_face(table: *const u16, words: usize, a: u32, b: u32) -> Answer;
-        pub fn lotskadi_same_component(table: *const u16, words: usize, a: u32, b: u32) -> Answer;
-        pub fn lotskadi_edge_round(table: *const u16, words: usize, tab: u32, out: *mut u16, room: usize) -> Answer;
-        pub fn lotskadi_vertex_round(table: *const u16, words: usize, tab: u32, out: *mut u16, room: usize) -> Answer;
-        pub fn lotskadi_face_round(table: *const u16, words: usize, tab: u32, out: *mut u16, room: usize) -> Answer;
-        pub fn lotskadi_component_marks(table: *const u16, words: usize, out: *mut u16, room: usize) -> Answer;
-        pub fn lotskadi_play(table: *mut u16, words: usize, tape: *const u8, bytes: usize) -> Run;
-        pub fn lotskadi_tape_needs(tape: *const u8, bytes: usize) -> Needs;
-        pub fn lotskadi_write_tape(table: *const u16, words: usize, out: *mut u8, room: usize) -> Answer;
-        pub fn lotskadi_screen(tape: *const u8, bytes: usize, out: *mut u8, room: usize) -> u8;
-    }
-}
-
 // SAFETY, of every call below: the pointer and length of each slice come from a Rust slice, which is valid for them and
 // aligned; a slice lent for writing is borrowed mutably, so it overlaps no other; the kernel keeps none of them.
 
+/// The C functions, as the header declares them.
+macro_rules! declarations {
+    ($prefix:literal $(fn $name:ident($($argument:ident: $type:ty),*) -> $answer:ty;)*) => {
+        extern "C" {$(
+            #[link_name = concat!($prefix, stringify!($name))]
+            pub fn $name($($argument: $type),*) -> $answer;
+        )*}
+    };
+}
+
 macro_rules! one_tab_commands {
-    ($($name:ident => $c:ident),* $(,)?) => {$(
+    ($($name:ident),*) => {$(
         pub fn $name(table: &mut [u16], tab: u32) -> u8 {
-            unsafe { c::$c(table.as_mut_ptr(), table.len(), tab) }
+            unsafe { c::$name(table.as_mut_ptr(), table.len(), tab) }
         }
     )*};
 }
 
 macro_rules! two_tab_commands {
-    ($($name:ident => $c:ident),* $(,)?) => {$(
+    ($($name:ident),*) => {$(
         pub fn $name(table: &mut [u16], a: u32, b: u32) -> u8 {
-            unsafe { c::$c(table.as_mut_ptr(), table.len(), a, b) }
+            unsafe { c::$name(table.as_mut_ptr(), table.len(), a, b) }
         }
     )*};
 }
 
 macro_rules! questions {
-    ($($name:ident => $c:ident),* $(,)?) => {$(
+    ($($name:ident),*) => {$(
         pub fn $name(table: &[u16], a: u32, b: u32) -> Answer {
-            unsafe { c::$c(table.as_ptr(), table.len(), a, b) }
+            unsafe { c::$name(table.as_ptr(), table.len(), a, b) }
         }
     )*};
 }
 
 macro_rules! rounds {
-    ($($name:ident => $c:ident),* $(,)?) => {$(
+    ($($name:ident),*) => {$(
         pub fn $name(table: &[u16], tab: u32, out: &mut [u16]) -> Answer {
-            unsafe { c::$c(table.as_ptr(), table.len(), tab, out.as_mut_ptr(), out.len()) }
+            unsafe { c::$name(table.as_ptr(), table.len(), tab, out.as_mut_ptr(), out.len()) }
         }
     )*};
 }
 
-one_tab_commands! { put => lotskadi_put, take_out => lotskadi_take_out }
+/// The calls of one library. Its symbols are the names below with a prefix.
+macro_rules! library {
+    ($prefix:literal) => {
+        use super::{Answer, Needs, Run, Totals};
 
-two_tab_commands! {
-    edge_join => lotskadi_edge_join,
-    vertex_join => lotskadi_vertex_join,
-    edge_cut => lotskadi_edge_cut,
-    vertex_cut => lotskadi_vertex_cut,
+        mod c {
+            use super::{Answer, Needs, Run, Totals};
+
+            declarations! { $prefix
+                fn put(table: *mut u16, words: usize, tab: u32) -> u8;
+                fn take_out(table: *mut u16, words: usize, tab: u32) -> u8;
+                fn edge_join(table: *mut u16, words: usize, a: u32, b: u32) -> u8;
+                fn vertex_join(table: *mut u16, words: usize, a: u32, b: u32) -> u8;
+                fn edge_cut(table: *mut u16, words: usize, a: u32, b: u32) -> u8;
+                fn vertex_cut(table: *mut u16, words: usize, a: u32, b: u32) -> u8;
+                fn ring_cut(table: *mut u16, words: usize, ring: *const u16, ring_words: usize) -> u8;
+                fn report(table: *const u16, words: usize) -> Totals;
+                fn component_report(table: *const u16, words: usize, tab: u32) -> Totals;
+                fn same_edge(table: *const u16, words: usize, a: u32, b: u32) -> Answer;
+                fn same_vertex(table: *const u16, words: usize, a: u32, b: u32) -> Answer;
+                fn same_face(table: *const u16, words: usize, a: u32, b: u32) -> Answer;
+                fn same_component(table: *const u16, words: usize, a: u32, b: u32) -> Answer;
+                fn edge_round(table: *const u16, words: usize, tab: u32, out: *mut u16, room: usize) -> Answer;
+                fn vertex_round(table: *const u16, words: usize, tab: u32, out: *mut u16, room: usize) -> Answer;
+                fn face_round(table: *const u16, words: usize, tab: u32, out: *mut u16, room: usize) -> Answer;
+                fn component_marks(table: *const u16, words: usize, out: *mut u16, room: usize) -> Answer;
+                fn play(table: *mut u16, words: usize, tape: *const u8, bytes: usize) -> Run;
+                fn tape_needs(tape: *const u8, bytes: usize) -> Needs;
+                fn write_tape(table: *const u16, words: usize, out: *mut u8, room: usize) -> Answer;
+                fn screen(tape: *const u8, bytes: usize, out: *mut u8, room: usize) -> u8;
+            }
+        }
+
+        one_tab_commands! { put, take_out }
+        two_tab_commands! { edge_join, vertex_join, edge_cut, vertex_cut }
+        questions! { same_edge, same_vertex, same_face, same_component }
+        rounds! { edge_round, vertex_round, face_round }
+
+        pub fn ring_cut(table: &mut [u16], ring: &[u16]) -> u8 {
+            unsafe { c::ring_cut(table.as_mut_ptr(), table.len(), ring.as_ptr(), ring.len()) }
+        }
+
+        pub fn report(table: &[u16]) -> Totals {
+            unsafe { c::report(table.as_ptr(), table.len()) }
+        }
+
+        pub fn component_report(table: &[u16], tab: u32) -> Totals {
+            unsafe { c::component_report(table.as_ptr(), table.len(), tab) }
+        }
+
+        pub fn component_marks(table: &[u16], out: &mut [u16]) -> Answer {
+            unsafe { c::component_marks(table.as_ptr(), table.len(), out.as_mut_ptr(), out.len()) }
+        }
+
+        pub fn play(table: &mut [u16], tape: &[u8]) -> Run {
+            unsafe { c::play(table.as_mut_ptr(), table.len(), tape.as_ptr(), tape.len()) }
+        }
+
+        pub fn tape_needs(tape: &[u8]) -> Needs {
+            unsafe { c::tape_needs(tape.as_ptr(), tape.len()) }
+        }
+
+        pub fn write_tape(table: &[u16], out: &mut [u8]) -> Answer {
+            unsafe { c::write_tape(table.as_ptr(), table.len(), out.as_mut_ptr(), out.len()) }
+        }
+
+        pub fn screen(tape: &[u8], out: &mut [u8]) -> u8 {
+            unsafe { c::screen(tape.as_ptr(), tape.len(), out.as_mut_ptr(), out.len()) }
+        }
+    };
 }
 
-questions! {
-    same_edge => lotskadi_same_edge,
-    same_vertex => lotskadi_same_vertex,
-    same_face => lotskadi_same_face,
-    same_component => lotskadi_same_component,
+mod kernel {
+    library! { "lotskadi_" }
 }
 
-rounds! {
-    edge_round => lotskadi_edge_round,
-    vertex_round => lotskadi_vertex_round,
-    face_round => lotskadi_face_round,
-}
+pub use kernel::*;
 
-pub fn ring_cut(table: &mut [u16], ring: &[u16]) -> u8 {
-    unsafe { c::lotskadi_ring_cut(table.as_mut_ptr(), table.len(), ring.as_ptr(), ring.len()) }
-}
-
-pub fn report(table: &[u16]) -> Totals {
-    unsafe { c::lotskadi_report(table.as_ptr(), table.len()) }
-}
-
-pub fn component_report(table: &[u16], tab: u32) -> Totals {
-    unsafe { c::lotskadi_component_report(table.as_ptr(), table.len(), tab) }
-}
-
-pub fn component_marks(table: &[u16], out: &mut [u16]) -> Answer {
-    unsafe { c::lotskadi_component_marks(table.as_ptr(), table.len(), out.as_mut_ptr(), out.len()) }
-}
-
-pub fn play(table: &mut [u16], tape: &[u8]) -> Run {
-    unsafe { c::lotskadi_play(table.as_mut_ptr(), table.len(), tape.as_ptr(), tape.len()) }
-}
-
-pub fn tape_needs(tape: &[u8]) -> Needs {
-    unsafe { c::lotskadi_tape_needs(tape.as_ptr(), tape.len()) }
-}
-
-pub fn write_tape(table: &[u16], out: &mut [u8]) -> Answer {
-    unsafe { c::lotskadi_write_tape(table.as_ptr(), table.len(), out.as_mut_ptr(), out.len()) }
-}
-
-pub fn screen(tape: &[u8], out: &mut [u8]) -> u8 {
-    unsafe { c::lotskadi_screen(tape.as_ptr(), tape.len(), out.as_mut_ptr(), out.len()) }
+/// The calls of another revision's library, whose symbols scripts/compare renames.
+#[cfg(feature = "compare")]
+pub mod before {
+    library! { "before_lotskadi_" }
 }

@@ -5,6 +5,7 @@ pub mod binding;
 pub mod commands;
 pub mod draw;
 pub mod explain;
+pub mod measuring;
 pub mod plain;
 pub mod rounds;
 pub mod testing;

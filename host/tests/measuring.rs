@@ -1,0 +1,29 @@
+//! The rows of the benchmark: each row fails where the two sides differ.
+
+use lotskadi_host::measuring::rows::{rows, Row};
+use lotskadi_host::measuring::sides::{Kernel, Plain};
+use lotskadi_host::testing::random::Random;
+
+fn measured(capacity: usize) -> Vec<Row> {
+    rows::<Kernel, Plain>(&mut Random::new(1), capacity, 1)
+}
+
+#[test]
+fn kernel_and_plain_rust_agree() {
+    let rows = measured(4096);
+    assert_eq!(rows.len(), 14);
+    assert!(rows.iter().all(|row| row.ours > 0.0 && row.theirs > 0.0));
+}
+
+#[test]
+fn small_tables_have_no_long_ring() {
+    let names: Vec<&str> = measured(512).iter().map(|row| row.name).collect();
+    assert!(names.contains(&"ring of 255") && !names.contains(&"ring of 2,048"));
+}
+
+#[test]
+fn the_best_times_are_kept() {
+    let mut row = Row { name: "a row", ours: 3.0, theirs: 4.0 };
+    row.keep_best(&Row { name: "a row", ours: 5.0, theirs: 2.0 });
+    assert_eq!((row.ours, row.theirs), (3.0, 2.0));
+}
