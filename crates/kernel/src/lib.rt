@@ -68,11 +68,15 @@ pub fn make_change(table: &mut [u16], change: Change) -> u8
     ensures { λ r. ⌜ r ≡ callRefusal (now (table .entry)) (commandFor change) ⌝ }
     ensures table { λ r. ⌜ now (table .exit) ≡ callLeaves (now (table .entry)) (commandFor change) ⌝ }
 {
-    let refusal = table_refusal(table);
-    if refusal != 0 {
-        return refusal;
+    let bent = table_refusal(table);
+    if bent != 0 {
+        return bent;
     }
-    changes::perform(table, change)
+    let refusal = changes::refusal_of(table, change);
+    if refusal == 0 {
+        changes::write(table, change);
+    }
+    refusal
 }
 
 // Dart x appears, an edge and a vertex by itself.

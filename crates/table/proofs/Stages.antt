@@ -1,6 +1,6 @@
 -- Refusals in order: what a refusal of 0 says of each stage, and how the stages of code put together give a
 -- definition's. Assumes nothing.
-use mathlib.Core.Path.{_≡_, refl, sym, ap₂, _∙_}
+use mathlib.Core.Path.{_≡_, refl, sym, ap, ap₂, _∙_}
 use mathlib.Core.Bool.{Bool, true, false, _&&_, not}
 use mathlib.Core.List.{List, [], _∷_}
 use Prim.Native.Nat.{ℕ, _<_}
@@ -111,3 +111,8 @@ accepted n r v w u e z q = rw (eq-eqb n 0 (sym e ∙ z)) q
 pub refused : (n r : ℕ) (v w : Table) → r ≡ n → (r ≡ 0 → ⊥) → w ≡ leaves n v w
 unfolding leaves
 refused n r v w e z = rw (ne-eqb n 0 (λ q. z (e ∙ q)))
+
+-- a change made by one name of its refusal is made by another
+pub made :
+    (n m r : ℕ) (u v w : Table) → m ≡ n → (r ≡ m) × (u ≡ leaves m v w) → (r ≡ n) × (u ≡ leaves n v w)
+made n m r u v w e p = (p .0 ∙ e, p .1 ∙ ap (λ i. leaves i v w) e)

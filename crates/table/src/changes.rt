@@ -4,7 +4,7 @@ ghost use mathlib.Core.Path.{_≡_};
 ghost use mathlib.Core.List.{[], _∷_};
 ghost use Rattle.table.specs.Limits.{edgeNext};
 ghost use Rattle.table.specs.Commands.{isAlone, presenceRefusal, commandRefusal, commandOn, commandLeaves};
-ghost use Rattle.table.specs.Commands.{puts, takesOut, joins, cuts, withAll, swapped};
+ghost use Rattle.table.specs.Commands.{puts, takesOut, joins, cuts, withAll, swapped, leaves};
 ghost use Rattle.table.specs.Inner.{InTable, WithinCapacity, WithinCapacityAtBoth, Accepts, Storable};
 ghost use Rattle.table.specs.Inner.{dimensionOf, commandFor};
 use crate::Change;
@@ -147,15 +147,62 @@ pub fn write(table: &mut [u16], change: Change)
     }
 }
 
-// BOTH: the refusal, or 0 and the change is made.
+// BOTH AT ONCE, for a run of many changes. It goes by arms, in which the dimension is known; a caller has it compiled
+// into its loop as long as it is the only one. A call for a single change asks `refusal_of`, and then `write`.
+
+fn write_all_unless(table: &mut [u16], refusal: u8, x: u32, value: u32) -> u8
+    requires { ⌜ (refusal ≡ 0 → Storable (now table) x value) ⌝ }
+    ensures { λ r. ⌜ r ≡ refusal ⌝ }
+    ensures table { λ _. ⌜ now (table .exit) ≡
+        leaves refusal (withAll x value (now (table .entry))) (now (table .entry)) ⌝ }
+{
+    if refusal == 0 {
+        write_all(table, x, value);
+    }
+    refusal
+}
+
+fn write_swap_unless(table: &mut [u16], refusal: u8, d: Dimension, a: u32, b: u32) -> u8
+    requires { ⌜ (refusal ≡ 0 → WithinCapacityAtBoth (now table) a b) ⌝ }
+    ensures { λ r. ⌜ r ≡ refusal ⌝ }
+    ensures table { λ _. ⌜ now (table .exit) ≡
+        leaves refusal (swapped (dimensionOf d) a b (now (table .entry))) (now (table .entry)) ⌝ }
+{
+    if refusal == 0 {
+        write_swap(table, d, a, b);
+    }
+    refusal
+}
+
 pub fn perform(table: &mut [u16], change: Change) -> u8
     requires { ⌜ WithinCapacity (now table) ⌝ }
     ensures { λ r. ⌜ r ≡ commandRefusal (now (table .entry)) (commandFor change) ⌝ }
     ensures table { λ r. ⌜ now (table .exit) ≡ commandLeaves (now (table .entry)) (commandFor change) ⌝ }
 {
-    let refusal = refusal_of(table, change);
-    if refusal == 0 {
-        write(table, change);
+    match change {
+        Change::Put(x) => {
+            let refusal = put_refusal(table, x);
+            write_all_unless(table, refusal, x, x)
+        }
+        Change::TakeOut(x) => {
+            let refusal = take_out_refusal(table, x);
+            write_all_unless(table, refusal, x, 0)
+        }
+        Change::EdgeJoin(a, b) => {
+            let refusal = join_refusal(table, Dimension::Edge, a, b);
+            write_swap_unless(table, refusal, Dimension::Edge, a, b)
+        }
+        Change::EdgeCut(a, b) => {
+            let refusal = cut_refusal(table, Dimension::Edge, a, b);
+            write_swap_unless(table, refusal, Dimension::Edge, a, b)
+        }
+        Change::VertexJoin(a, b) => {
+            let refusal = join_refusal(table, Dimension::Vertex, a, b);
+            write_swap_unless(table, refusal, Dimension::Vertex, a, b)
+        }
+        Change::VertexCut(a, b) => {
+            let refusal = cut_refusal(table, Dimension::Vertex, a, b);
+            write_swap_unless(table, refusal, Dimension::Vertex, a, b)
+        }
     }
-    refusal
 }
