@@ -1,14 +1,16 @@
-//! Links the kernel's static library, which `rt staticlib c_calls` writes. With the feature `compare` it also links the
-//! library of another revision, which scripts/compare writes; COMPARE_FIRST, `before` or `now`, says which comes first.
+//! Links the kernel's static library, which `rt staticlib c_calls` writes. With the feature `compare` it links a copy of
+//! it and the library of another revision instead, which scripts/compare writes; COMPARE_FIRST, `before` or `now`, says
+//! which comes first.
 
 use std::env;
 
-const NOW: (&str, &str) = ("/../target/staticlib", "c_calls");
+const KERNEL: (&str, &str) = ("/../target/staticlib", "c_calls");
+const NOW: (&str, &str) = ("/../target/compare", "now");
 const BEFORE: (&str, &str) = ("/../target/compare", "before");
 
 fn libraries() -> Vec<(&'static str, &'static str)> {
     if env::var_os("CARGO_FEATURE_COMPARE").is_none() {
-        return vec![NOW];
+        return vec![KERNEL];
     }
     println!("cargo:rerun-if-env-changed=COMPARE_FIRST");
     match env::var("COMPARE_FIRST").as_deref() {
