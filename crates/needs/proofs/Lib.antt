@@ -3,5 +3,5 @@ pub mod Capacities
 pub mod Peaks
 pub mod Differences
 pub mod ChangedWords
-pub mod Counted
+pub mod TapeRings
 pub mod Tallies

@@ -1,7 +1,10 @@
 -- What is counted of a tape command by command. Assumes nothing: these are definitions.
+use mathlib.Core.Path.{_≡_}
 use Prim.Native.Nat.{ℕ, _+_, _*_, _-_, _≤_}
 use Rattle.table.specs.Limits.{maxTape}
-use Rattle.tape.specs.Steps.{TapeCommand}
+use Rattle.hypermap.specs.Hypermap.{Dimension}
+use Rattle.table.specs.Commands.{joins, cuts}
+use Rattle.tape.specs.Steps.{TapeCommand, changes}
 use Rattle.needs.specs.Amounts.{namedBy, larger, greatest, putsBy, takeOutsBy, changesBy}
 use Rattle.needs.specs.declared.Tally.{Tally}
 
@@ -20,6 +23,10 @@ added t c = record {
   below = belowAfter (t .below) c;
   changes = t .changes + changesBy c;
 }
+
+-- a join or a cut of a and b, in either dimension
+abbrev pub AddsSwap : Tally → (a b : ℕ) → Tally → Type 0
+AddsSwap t a b r = (k : Dimension) → (r ≡ added t (changes (joins k a b))) × (r ≡ added t (changes (cuts k a b)))
 
 -- the counts of a tape that is not too long
 pub record Countable (t : Tally) : Type 0 where

@@ -1,12 +1,9 @@
-// The greatest number of a dart that a command names. Operands are numbers here, whatever they are.
+// The greatest of the numbers that a command names, whatever they are.
 ghost use mathlib.Core.Path.{_≡_};
 ghost use Prim.Native.Nat.{_≤_};
 ghost use Rattle.table.specs.Limits.{maxTapeRing};
-ghost use Rattle.table.specs.Commands.{named};
-ghost use Rattle.table.specs.Inner.{commandFor};
 ghost use Rattle.tape.specs.Tapes.{numbersFrom};
 ghost use Rattle.needs.specs.Amounts.{larger, greatest};
-use table::Change;
 use tape::decode;
 
 pub fn larger_of(a: u32, b: u32) -> u32
@@ -27,17 +24,4 @@ pub fn greatest_number(tape: &[u8], n: usize) -> u32
         k += 1;
     }
     found
-}
-
-pub fn greatest_of(change: Change) -> u32
-    ensures { λ r. ⌜ r ≡ greatest (named (commandFor change)) ⌝ }
-{
-    match change {
-        Change::Put(x) => x,
-        Change::TakeOut(x) => x,
-        Change::EdgeJoin(a, b) => larger_of(a, b),
-        Change::EdgeCut(a, b) => larger_of(a, b),
-        Change::VertexJoin(a, b) => larger_of(a, b),
-        Change::VertexCut(a, b) => larger_of(a, b),
-    }
 }

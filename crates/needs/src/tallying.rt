@@ -1,14 +1,15 @@
 // The needs of a tape: each command is read whole and counted.
 ghost use mathlib.Core.Path.{_≡_};
-ghost use Prim.Native.Nat.{_+_, _*_, _≤_};
+ghost use Prim.Native.Nat.{_+_, _*_, _-_, _≤_};
 ghost use lib.ListN.{length};
 ghost use Rattle.table.specs.Limits.{maxTape};
+ghost use Rattle.table.specs.Commands.{puts, takesOut};
 ghost use Rattle.table.specs.Inner.{commandFor};
 ghost use Rattle.tape.specs.Steps.{changes, reports, cutsRing};
 ghost use Rattle.tape.specs.Tapes.{numbersFrom, contentsOf};
 ghost use Rattle.tape.specs.Inner.{meaning};
 ghost use Rattle.needs.specs.Amounts.{neededBy, refusedNeeds};
-ghost use Rattle.needs.specs.Inner.{peakAfter, belowAfter, added, Countable};
+ghost use Rattle.needs.specs.Inner.{added, AddsSwap, Countable};
 use crate::Needs;
 use crate::Tally;
 use crate::named;
@@ -19,50 +20,82 @@ use tape::Reading;
 use tape::decode;
 use tape::operands;
 
-// THE PEAK of puts less take-outs, and how far that difference lies below it now. The difference may be negative, and
-// neither of these is.
-
-// A put at the peak makes a new one.
-fn peak_after(tally: Tally, change: Change) -> u32
-    requires { ⌜ Countable tally ⌝ }
-    ensures { λ r. ⌜ r ≡ peakAfter (tally .peak) (tally .below) (changes (commandFor change)) ⌝ }
-{
-    match change {
-        Change::Put(_) => {
-            if tally.below == 0 {
-                tally.peak + 1
-            } else {
-                tally.peak
-            }
-        }
-        _ => tally.peak,
-    }
-}
-
-fn below_after(tally: Tally, change: Change) -> u32
-    requires { ⌜ Countable tally ⌝ }
-    ensures { λ r. ⌜ r ≡ belowAfter (tally .below) (changes (commandFor change)) ⌝ }
-{
-    match change {
-        Change::Put(_) => { if tally.below == 0 { 0 } else { tally.below - 1 } }
-        Change::TakeOut(_) => tally.below + 1,
-        _ => tally.below,
-    }
-}
-
 // ONE MORE COMMAND
+
+// A put at the peak of puts less take-outs makes a new one, and else comes nearer to it. The difference may be negative,
+// but how far it lies below its peak is not.
+fn peak_after_put(tally: Tally) -> u32
+    requires { ⌜ Countable tally ⌝ }
+    ensures { λ r. ⌜ r ≡ tally .peak + (1 - tally .below) ⌝ }
+{
+    if tally.below == 0 {
+        tally.peak + 1
+    } else {
+        tally.peak
+    }
+}
+
+fn below_after_put(tally: Tally) -> u32
+    ensures { λ r. ⌜ r ≡ tally .below - 1 ⌝ }
+{
+    if tally.below == 0 { 0 } else { tally.below - 1 }
+}
+
+fn add_put(tally: Tally, x: u32) -> Tally
+    requires { ⌜ Countable tally ⌝ }
+    ensures { λ r. ⌜ r ≡ added tally (changes (puts x)) ⌝ }
+    ensures few { λ r. ⌜ r .changes ≤ tally .changes + 255 ⌝ }
+{
+    Tally {
+        capacity: named::larger_of(tally.capacity, x),
+        commands: tally.commands + 1,
+        peak: peak_after_put(tally),
+        below: below_after_put(tally),
+        changes: tally.changes + 1,
+    }
+}
+
+fn add_take_out(tally: Tally, x: u32) -> Tally
+    requires { ⌜ Countable tally ⌝ }
+    ensures { λ r. ⌜ r ≡ added tally (changes (takesOut x)) ⌝ }
+    ensures few { λ r. ⌜ r .changes ≤ tally .changes + 255 ⌝ }
+{
+    Tally {
+        capacity: named::larger_of(tally.capacity, x),
+        commands: tally.commands + 1,
+        peak: tally.peak,
+        below: tally.below + 1,
+        changes: tally.changes + 1,
+    }
+}
+
+// A join or a cut of a and b.
+fn add_swap(tally: Tally, a: u32, b: u32) -> Tally
+    requires { ⌜ Countable tally ⌝ }
+    ensures { λ r. ⌜ AddsSwap tally a b r ⌝ }
+    ensures few { λ r. ⌜ r .changes ≤ tally .changes + 255 ⌝ }
+{
+    Tally {
+        capacity: named::larger_of(tally.capacity, named::larger_of(a, b)),
+        commands: tally.commands + 1,
+        peak: tally.peak,
+        below: tally.below,
+        changes: tally.changes + 1,
+    }
+}
 
 fn add_change(tally: Tally, change: Change) -> Tally
     requires { ⌜ Countable tally ⌝ }
     ensures { λ r. ⌜ r ≡ added tally (changes (commandFor change)) ⌝ }
     ensures few { λ r. ⌜ r .changes ≤ tally .changes + 255 ⌝ }
 {
-    Tally {
-        capacity: named::larger_of(tally.capacity, named::greatest_of(change)),
-        commands: tally.commands + 1,
-        peak: peak_after(tally, change),
-        below: below_after(tally, change),
-        changes: tally.changes + 1,
+    match change {
+        Change::Put(x) => add_put(tally, x),
+        Change::TakeOut(x) => add_take_out(tally, x),
+        Change::EdgeJoin(a, b) => add_swap(tally, a, b),
+        Change::EdgeCut(a, b) => add_swap(tally, a, b),
+        Change::VertexJoin(a, b) => add_swap(tally, a, b),
+        Change::VertexCut(a, b) => add_swap(tally, a, b),
     }
 }
 

@@ -5,7 +5,7 @@ use native.Mathlib.Omega.{arith}
 use Rattle.tape.specs.Steps.{cutsRing}
 use Rattle.tape.specs.Tapes.{numbersFrom}
 use Rattle.needs.specs.Amounts.{greatest}
-use Rattle.needs.proofs.Counted.{linksNumbered}
+use Rattle.needs.proofs.TapeRings.{linksNumbered}
 use Rattle.needs.proofs.Tallies.{addedBy}
 use Rattle.needs.proofs.tallying.add_ring.Statement.{statement}
 use Rattle.needs.proofs.tallying.add_ring.Tie as tie
