@@ -117,8 +117,10 @@ module _ (n : ℕ) (xs o : List ℕ) (f : ℕ) (e : f ≡ n) where
       (r : Answer) → r ≡ refusedAnswer f → (f ≡ 0 → ⊥) → (r ≡ listAnswer n xs o) × (o ≡ listLeaves n xs o)
   unfolding listAnswer listLeaves listRefusal
   listFirst r i z =
-      let q = refusedFirst n (unless (leb (length xs) (length o)) shortRoom) f e z in
-      (i ∙ answerStopped f (listRefusal n xs o) false (length xs) q z, rw (ne-eqb (listRefusal n xs o) 0 (λ p. z (q ∙ p))))
+      let q = refusedFirst n (unless (leb (length xs) (length o)) shortRoom) f e z in (
+        i ∙ answerStopped f (listRefusal n xs o) false (length xs) q z,
+        rw (ne-eqb (listRefusal n xs o) 0 (λ p. z (q ∙ p))),
+      )
 
   pub listShort :
       (r : Answer) → r ≡ refusedAnswer shortRoom → f ≡ 0 → length o < length xs →

@@ -19,8 +19,8 @@ use Rattle.tape.specs.Runs.{runOver}
 use Rattle.soundness.specs.Soundness.{tableRefusal}
 use Rattle.kernel.specs.Calls.{callRefusal, ringCallRefusal}
 use Rattle.kernel.specs.Tapes.{tapeRefusal, playRefusal, playOutcome}
-use Rattle.kernel.specs.Demands.{OneOf, tableNumbers, commandNumbers, ringNumbers}
-use Rattle.kernel.specs.Demands.{runNumbers}
+use Rattle.kernel.specs.Demands.{OneOf, tableRefusals, commandRefusals, ringRefusals}
+use Rattle.kernel.specs.Demands.{runRefusals}
 
 -- ONE NUMBER: a record, for from its type the numbers are known at each stage
 pub record One (n : ℕ) (ns : List ℕ) : Type 0 where
@@ -38,7 +38,8 @@ pub orElseOne : {n m : ℕ} {ns : List ℕ} → One n ns → One m ns → One (o
 unfolding orElse
 orElseOne {n} f g = byCases (eqb n 0) (λ t. rw t g) (λ t. rw t f)
 
-pub tableOne : (w : Table) {ns : List ℕ} → among wrongSize ns ≡ true → among bentTable ns ≡ true → One (tableRefusal w) ns
+pub tableOne :
+    (w : Table) {ns : List ℕ} → among wrongSize ns ≡ true → among bentTable ns ≡ true → One (tableRefusal w) ns
 unfolding tableRefusal
 tableOne w p q = orElseOne (unlessOne _ _ p) (unlessOne _ _ q)
 
@@ -51,7 +52,7 @@ presenceOne w xs p q = orElseOne (unlessOne _ _ p) (unlessOne _ _ q)
 pub widen : {n : ℕ} {ns : List ℕ} (ms : List ℕ) → all (λ k. among k ms) ns ≡ true → One n ns → One n ms
 widen {n} {ns} ms p f = record { one = λ z. allMem (λ k. among k ms) ns p n (f .one z) }
 
-restOne : (w : Table) (c : Command) → One (commandRefusal w c) (commandNumbers c)
+restOne : (w : Table) (c : Command) → One (commandRefusal w c) (commandRefusals c)
 unfolding among
 restOne w (puts x) = orElseOne (unlessOne _ _ refl) (unlessOne _ _ refl)
 restOne w (takesOut x) = orElseOne (presenceOne _ _ refl refl) (unlessOne _ _ refl)
@@ -60,25 +61,25 @@ restOne w (cuts k a b) =
     orElseOne (presenceOne _ _ refl refl) (orElseOne (unlessOne _ _ refl) (unlessOne _ _ refl))
 
 -- every command's numbers begin with the table's, and are numbers of a run
-tableFirst : (w : Table) (c : Command) → One (tableRefusal w) (commandNumbers c)
+tableFirst : (w : Table) (c : Command) → One (tableRefusal w) (commandRefusals c)
 unfolding among
 tableFirst w (puts x) = tableOne w refl refl
 tableFirst w (takesOut x) = tableOne w refl refl
 tableFirst w (joins k a b) = tableOne w refl refl
 tableFirst w (cuts k a b) = tableOne w refl refl
 
-inRun : (c : Command) → all (λ k. among k runNumbers) (commandNumbers c) ≡ true
+inRun : (c : Command) → all (λ k. among k runRefusals) (commandRefusals c) ≡ true
 unfolding among all
 inRun (puts x) = refl
 inRun (takesOut x) = refl
 inRun (joins k a b) = refl
 inRun (cuts k a b) = refl
 
-pub commandOne : (w : Table) (c : Command) → One (callRefusal w c) (commandNumbers c)
+pub commandOne : (w : Table) (c : Command) → One (callRefusal w c) (commandRefusals c)
 unfolding callRefusal
 commandOne w c = orElseOne (tableFirst w c) (restOne w c)
 
-ringRest : (w : Table) (ws : List ℕ) → One (ringRefusal w ws) ringNumbers
+ringRest : (w : Table) (ws : List ℕ) → One (ringRefusal w ws) ringRefusals
 unfolding among ringRefusal conditionRefusal
 ringRest w ws =
     orElseOne (unlessOne _ _ refl)
@@ -87,20 +88,20 @@ ringRest w ws =
     (orElseOne (unlessOne _ _ refl)
     (orElseOne (unlessOne _ _ refl) (orElseOne (unlessOne _ _ refl) (unlessOne _ _ refl))))))
 
-pub ringOne : (w : Table) (ws : List ℕ) → One (ringCallRefusal w ws) ringNumbers
+pub ringOne : (w : Table) (ws : List ℕ) → One (ringCallRefusal w ws) ringRefusals
 unfolding among ringCallRefusal
 ringOne w ws = orElseOne (tableOne _ refl refl) (ringRest w ws)
 
 -- A RUN
-pub playOne : (w : Table) (tape : List ℕ) → One (playRefusal w tape) tableNumbers
+pub playOne : (w : Table) (tape : List ℕ) → One (playRefusal w tape) tableRefusals
 unfolding playRefusal tapeRefusal among
 playOne w tape = orElseOne (unlessOne _ _ refl) (tableOne _ refl refl)
 
-stepOne : (w : Table) (c : TapeCommand) → One (stepRefusal w c) runNumbers
+stepOne : (w : Table) (c : TapeCommand) → One (stepRefusal w c) runRefusals
 unfolding among all
-stepOne w (changes c) = widen runNumbers (inRun c) (restOne w c)
+stepOne w (changes c) = widen runRefusals (inRun c) (restOne w c)
 stepOne w reports = none
-stepOne w (cutsRing ws) = widen runNumbers refl (ringRest w ws)
+stepOne w (cutsRing ws) = widen runRefusals refl (ringRest w ws)
 
 pub contentsOne : (n : ℕ) (bs : List ℕ) → One (contentsBy n bs .refusal) (unknownCommand ∷ tornCommand ∷ [])
 unfolding contentsBy readRefusal among
@@ -110,15 +111,15 @@ contentsOne (suc n) (b ∷ bs) =
     byCases (eqb (readRefusal (b ∷ bs)) 0) (λ t. rw t (contentsOne n (restOf (b ∷ bs))))
     (λ t. rw t (orElseOne (unlessOne _ _ refl) (unlessOne _ _ refl)))
 
-foldOne : (w : Table) (cs : List TapeCommand) (n : ℕ) → One n runNumbers → One (runOver w cs n .number) runNumbers
+foldOne : (w : Table) (cs : List TapeCommand) (n : ℕ) → One n runRefusals → One (runOver w cs n .number) runRefusals
 unfolding runOver
 foldOne w [] n f = f
 foldOne w (c ∷ cs) n f =
     byCases (eqb (stepRefusal w c) 0) (λ t. rw t (foldOne (stepOn w c) cs n f)) (λ t. rw t (stepOne w c))
 
-pub runOne : (w : Table) (tape : List ℕ) → One (playOutcome w tape .number) runNumbers
+pub runOne : (w : Table) (tape : List ℕ) → One (playOutcome w tape .number) runRefusals
 unfolding playOutcome among all
 runOne w tape =
     byCases (eqb (playRefusal w tape) 0)
-    (λ t. rw t (foldOne w _ _ (widen runNumbers refl (contentsOne (length tape) tape))))
-    (λ t. rw t (widen runNumbers refl (playOne w tape)))
+    (λ t. rw t (foldOne w _ _ (widen runRefusals refl (contentsOne (length tape) tape))))
+    (λ t. rw t (widen runRefusals refl (playOne w tape)))

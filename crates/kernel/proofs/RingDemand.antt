@@ -92,7 +92,8 @@ module _ (w : Table) (ws : List ℕ) (e : ringCallRefusal w ws ≡ 0) where
       parted : IsParted (hypermapOf w) (hypermapOf v) l ls
       parted =
           let r = componentReported w (l .first) (asked (l .first) (inRing .0) .0) in
-          partingLaw w ws l ls hypermap f q (eq-eqb (genus (componentAt (hypermapOf w) (l .first))) 0 (sym (r .genus) ∙ g))
+          partingLaw w ws l ls hypermap f q
+          (eq-eqb (genus (componentAt (hypermapOf w) (l .first))) 0 (sym (r .genus) ∙ g))
 
       planar :
           (x : ℕ) → Mem x (hypermapOf w .darts) → isPlanar (componentAt (hypermapOf v) x) ≡ true →
@@ -141,7 +142,8 @@ module _ (w : Table) (ws : List ℕ) (e : ringCallRefusal w ws ≡ 0) where
         (reportOf v .genus ≡ 0)
     ringCut =
         let k = parted (ring .0) (ring .1) (ring .2) ofRing in
-        let p = planarPartingLaw w ws (ring .0) (ring .1) hypermap f (ring .2) (eq-eqb (genus (hypermapOf w)) 0 noGenus) in
+        let p = planarPartingLaw w ws (ring .0) (ring .1) hypermap f (ring .2)
+        (eq-eqb (genus (hypermapOf w)) 0 noGenus) in
         let r = planReported v fits in (
           record { link = ring .0; links = ring .1; listed = ring .2; parted = k },
           r .number,

@@ -135,7 +135,8 @@ round w o x out e =
     let p = listPassed q l out e in
     let r = dartReady w x (p .0) in
     record {
-      orbit = orbitLaw (hypermapOf w) (tableHypermap w (r .at .hypermap)) (kindOf o) .0 x (memPresent w x ∙ r .at .here);
+      orbit = orbitLaw (hypermapOf w) (tableHypermap w (r .at .hypermap)) (kindOf o) .0 x
+          (memPresent w x ∙ r .at .here);
       count = ap (λ a. a .count) (sym (givenAnswer _ (listRefusal q l out) false (length l) refl (p .1)));
       written = rw (eq-eqb (listRefusal q l out) 0 (p .1));
     }

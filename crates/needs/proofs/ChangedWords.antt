@@ -47,7 +47,8 @@ ringWords w ws s e =
 
 -- A TAPE
 stepWords :
-    (w : Table) (c : TapeCommand) → holdsHypermap w ≡ true → stepRefusal w c ≡ 0 → changedBy w c ≡ wordsPerChange * changesBy c
+    (w : Table) (c : TapeCommand) → holdsHypermap w ≡ true → stepRefusal w c ≡ 0 →
+    changedBy w c ≡ wordsPerChange * changesBy c
 stepWords w (changes c) s e = commandWords w c s e
 stepWords w reports s e = refl
 stepWords w (cutsRing ws) s e = ringWords w ws s e

@@ -68,7 +68,8 @@ module _ (v w : Table) (size : length w ≡ length v) where
 
 -- A SWAP of two darts
 pub swapWords :
-    (w : Table) (k : Dimension) (a b : ℕ) → IsSwapped w k a b → (a ≡ b → ⊥) → differing w (swapped k a b w) ≡ wordsPerChange
+    (w : Table) (k : Dimension) (a b : ℕ) → IsSwapped w k a b → (a ≡ b → ⊥) →
+    differing w (swapped k a b w) ≡ wordsPerChange
 swapWords w k a b z d =
     let f = z .fourWords d in differingIs w (swapped k a b w) (z .size) (fourPlaces w k a b) (f .four) (f .differ)
 
@@ -153,7 +154,8 @@ module _ (w : Table) (s : holdsHypermap w ≡ true) where
       clash (sameOrbits w (of k) s .reflexive a (memPresent w a ∙ j .first)) (rw (← e) at (j .apart))
 
 pub commandWords :
-    (w : Table) (c : Command) → holdsHypermap w ≡ true → commandRefusal w c ≡ 0 → differing w (commandOn w c) ≡ wordsPerChange
+    (w : Table) (c : Command) → holdsHypermap w ≡ true → commandRefusal w c ≡ 0 →
+    differing w (commandOn w c) ≡ wordsPerChange
 commandWords w (puts x) s e = putWords w s x (putPassed w x e)
 commandWords w (takesOut x) s e = takeOutWords w s x (takeOutPassed w x e)
 commandWords w (joins k a b) s e =

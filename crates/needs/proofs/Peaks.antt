@@ -142,7 +142,8 @@ step w (cutsRing ws) p s e =
     omega (arith, largerIs (dartsIn w) (dartsIn (stepOn w (cutsRing ws)) + p), ringDarts w ws s e)
 
 most :
-    (cs : List TapeCommand) (w : Table) → holdsHypermap w ≡ true → AllAccepted w cs → mostDarts w cs ≡ dartsIn w + peakOf cs
+    (cs : List TapeCommand) (w : Table) → holdsHypermap w ≡ true → AllAccepted w cs →
+    mostDarts w cs ≡ dartsIn w + peakOf cs
 unfolding mostDarts peakOf
 most [] w s a = omega arith
 most (c ∷ cs) w s a =

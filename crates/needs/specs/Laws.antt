@@ -49,7 +49,8 @@ mostDarts w (c ∷ cs) = larger (dartsIn w) (mostDarts (stepOn w c) cs)
 
 abbrev pub MostDartsLaw : Type 0
 MostDartsLaw =
-    (w : Table) (cs : List TapeCommand) → holdsHypermap w ≡ true → AllAccepted w cs → mostDarts w cs ≡ dartsIn w + peakOf cs
+    (w : Table) (cs : List TapeCommand) → holdsHypermap w ≡ true → AllAccepted w cs →
+    mostDarts w cs ≡ dartsIn w + peakOf cs
 
 -- WORDS: "the words changed, counted command by command and crossing by crossing". The places where two tables differ
 unfoldable pub differing : (before after : Table) → ℕ

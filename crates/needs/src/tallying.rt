@@ -22,8 +22,8 @@ use tape::operands;
 
 // ONE MORE COMMAND
 
-// A put at the peak of puts less take-outs makes a new one, and else comes nearer to it. The difference may be negative,
-// but how far it lies below its peak is not.
+// A put at the peak of puts less take-outs makes a new one, and else comes nearer to it. The difference may be
+// negative, but how far it lies below its peak is not.
 fn peak_after_put(tally: Tally) -> u32
     requires { ⌜ Countable tally ⌝ }
     ensures { λ r. ⌜ r ≡ tally .peak + (1 - tally .below) ⌝ }

@@ -283,7 +283,8 @@ module _ (w : Table) (x v : ℕ) (k : HypermapAt w x) (one : 1 ≤ v) where
           }) (omega (arith, e .order)) (rw (e .before head l) (marked f head (h .state) at sameAt zero g e ms))
 
   -- few faces
-  pub countFew : (m : List ℕ) (count : ℕ) → capacity w ≤ maxCapacity → count ≡ facesEntered w x v m → count ≤ maxCapacity
+  pub countFew :
+      (m : List ℕ) (count : ℕ) → capacity w ≤ maxCapacity → count ≡ facesEntered w x v m → count ≤ maxCapacity
   countFew m count few e =
       omega (
         arith,

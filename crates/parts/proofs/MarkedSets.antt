@@ -32,7 +32,8 @@ dartOne w x d = low w x (rw memPresent at d)
 
 -- PAINTED on zeros: the darts of a closed part
 module _
-    (w : Table) (s : holdsHypermap w ≡ true) (n : ℕ) (room : capacity w ≤ maxCapacity) (size : capacity w ≤ n) (part : List ℕ)
+    (w : Table) (s : holdsHypermap w ≡ true) (n : ℕ) (room : capacity w ≤ maxCapacity) (size : capacity w ≤ n)
+    (part : List ℕ)
     (v : ℕ) (one : 1 ≤ v) (m : List ℕ) (long : length m ≡ n) (q : PartMarked part v (replicate n 0) m) where
   partMarkedTest : (y : ℕ) → 1 ≤ y → isMarked m v y ≡ among y part
   partMarkedTest y l =
@@ -59,7 +60,8 @@ module _
 
 -- all darts, and one component
 module _
-    (w : Table) (s : holdsHypermap w ≡ true) (room : capacity w ≤ maxCapacity) (n : ℕ) (size : capacity w ≤ n) (m : List ℕ)
+    (w : Table) (s : holdsHypermap w ≡ true) (room : capacity w ≤ maxCapacity) (n : ℕ) (size : capacity w ≤ n)
+    (m : List ℕ)
     (long : length m ≡ n) where
   wfTable : isHypermap (hypermapOf w) ≡ true
   wfTable = tableHypermap w s
@@ -78,7 +80,8 @@ module _
           back = λ k x d t. links (hypermapOf w) wfTable k .keeps x d;
         })
 
-  module _ (x : ℕ) (here : isPresent w x ≡ true) (q : PartMarked (componentOf (hypermapOf w) x) 1 (replicate n 0) m) where
+  module _
+      (x : ℕ) (here : isPresent w x ≡ true) (q : PartMarked (componentOf (hypermapOf w) x) 1 (replicate n 0) m) where
     dart : Mem x (hypermapOf w .darts)
     dart = rw memPresent here
 

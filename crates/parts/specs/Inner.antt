@@ -72,7 +72,7 @@ pub record PartMarked (part : List ℕ) (value : ℕ) (before after : List ℕ) 
   pub inside : (y : ℕ) → among y part ≡ true → markAt after y ≡ value
   pub outside : (y : ℕ) → 1 ≤ y → among y part ≡ false → markAt after y ≡ markAt before y
 
--- A SET OF DARTS told by a mark: they have it, each other number has 0, and what they are linked with is of the set
+-- THE DARTS WITH A GIVEN MARK: each other number has 0, and what they are linked with has the mark too
 abbrev pub isMarked : (marks : List ℕ) → (value x : ℕ) → Bool
 isMarked m v x = eqb (markAt m x) v
 

@@ -1,5 +1,5 @@
-// The numbers of a report, of all darts or of one component. The darts to be counted are told by a mark, each count of
-// orbits raises it by one, and so one array of marks serves them all.
+// The numbers of a report, of all darts or of one component. The darts to be counted have one mark, each count of
+// orbits raises it by one, and so one array of marks serves all counts.
 ghost use mathlib.Core.Path.{_≡_};
 ghost use Prim.Native.Nat.{_+_, _*_, _<_};
 ghost use lib.IntN.{pos, _+ℤ_, _-ℤ_};
@@ -106,7 +106,7 @@ pub fn genus_of(components: u32, characteristic: i32) -> u32
 
 // REPORTS
 
-// Of the darts that are marked with 1; what their floods have found is told.
+// Of the darts that are marked with 1. The flood's results are arguments.
 pub fn marked_counts(
     table: &[u16],
     marks: &mut [u16],

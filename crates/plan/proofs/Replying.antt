@@ -1,4 +1,5 @@
--- The state of a run that replies to each command: the table stays sound, and the lent memory as long as it was.
+-- The state of a run that replies to each command: the table stays within the capacity, and the lent memory
+-- as long as it was.
 -- Assumes nothing.
 use mathlib.Core.Path.{_≡_, refl, _∙_}
 use mathlib.Core.List.{List}

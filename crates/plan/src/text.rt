@@ -84,9 +84,9 @@ pub fn write_report(out: &mut [u8], from: usize, c: Counts) -> usize {
 }
 
 // The last line.
-pub fn end_refused(out: &mut [u8], at: usize, number: u8) {
+pub fn end_refused(out: &mut [u8], at: usize, refusal: u8) {
     let mut end = write_bytes(out, at, b"refused ");
-    end = write_number(out, end, number as u64);
+    end = write_number(out, end, refusal as u64);
     end = write_byte(out, end, b'\n');
     flush(out, end);
 }

@@ -95,7 +95,8 @@ fittedCalls w ls = calls (ltb maxDoubleLinks (length ls)) refl
         many = ltb→lt maxDoubleLinks (length ls) (subst T (sym e) tt)
 
         long :
-            (ringCallRefusal w (wordsOf ls) ≡ ringCallRefusal w []) × (ringCallLeaves w (wordsOf ls) ≡ ringCallLeaves w [])
+            (ringCallRefusal w (wordsOf ls) ≡ ringCallRefusal w []) ×
+            (ringCallLeaves w (wordsOf ls) ≡ ringCallLeaves w [])
         long = longAsNone w (wordsOf ls) (omega (arith, many, lengthWords ls))
     calls false e = (
       ap (λ (ks : List DoubleLink). ringCallRefusal w (wordsOf ks)) (take-length ls),

@@ -35,7 +35,7 @@ linksAreDarts m ls r = doubleDarts m ls (ringTo m ls r .0)
 pub acceptedDarts : (w : Table) (ws : List ℕ) → ringRefusal w ws ≡ 0 → areDarts (hypermapOf w) (linksOf ws) ≡ true
 acceptedDarts w ws e = linksAreDarts (hypermapOf w) (linksOf ws) (conditionsLaw w ws .0 e .1)
 
--- a ring leaves a sound table that holds the break
+-- a ring leaves a table that holds the break
 pub acceptedCut : (w : Table) (ws : List ℕ) → holdsHypermap w ≡ true → ringRefusal w ws ≡ 0 → IsCut w (linksOf ws)
 acceptedCut w ws s e = cutLaw w (linksOf ws) s (acceptedDarts w ws e)
 

@@ -14,7 +14,7 @@ use Rattle.table.specs.Layout.{Table, capacity, isPresent, holdsHypermap, hyper
 use Rattle.parts.specs.Inner.{markAt}
 use Rattle.rings.specs.Rings.{linksOf}
 
--- a list of darts of a sound table that the local arrays have room for
+-- a list of darts of a table within the capacity
 pub record Listed (w : Table) (ws : List ℕ) : Type 0 where
   pub hypermap : holdsHypermap w ≡ true
   pub room : capacity w ≤ maxCapacity

@@ -1,5 +1,5 @@
--- What a caller's table must pass before all else. Document 01, "Table" and refusals 1 and 2. Assumes nothing: these are
--- definitions.
+-- What a caller's table must pass before all else. Document 01, "Table" and refusals 1 and 2. Assumes nothing: these
+-- are definitions.
 use mathlib.Core.Bool.{Bool, _&&_}
 use Prim.Native.Nat.{ℕ, _*_, _%_}
 use lib.Dec.{leb, eqb}

@@ -1,5 +1,5 @@
--- What a sound table says of its darts. A number is present, and then its successor and its predecessor in each
--- dimension are present and undo each other, or it has four zero words. Assumes nothing.
+-- What a table that holds a hypermap says of its darts. A number is present, and then its successor and its
+-- predecessor in each dimension are present and undo each other, or it has four zero words. Assumes nothing.
 use mathlib.Core.Path.{_≡_}
 use mathlib.Core.Bool.{true, false, _&&_}
 use mathlib.Core.Logic.{_⊎_, inl, inr, ⊎-elim}
@@ -96,7 +96,8 @@ module _ (w : Table) (s : holdsHypermap w ≡ true) where
       ⊎-elim (λ z. z) (λ i. clash (presentFrom w x l h (low w _ (i edge .nextPresent))) n) (fitting w x s l h)
 
 pub holdsFrom :
-    (w : Table) → ((x : ℕ) → 1 ≤ x → x ≤ capacity w → Empty w x ⊎ ((k : Dimension) → Links w k x)) → holdsHypermap w ≡ true
+    (w : Table) → ((x : ℕ) → 1 ≤ x → x ≤ capacity w → Empty w x ⊎ ((k : Dimension) → Links w k x)) →
+    holdsHypermap w ≡ true
 unfolding holdsHypermap dartFits
 holdsFrom w f =
     memAll (dartFits w) (numbers w) (λ x m. let r = numbersMem w x m in

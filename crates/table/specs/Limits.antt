@@ -46,8 +46,8 @@ maxDoubleLinks = maxRing / 2
 abbrev pub maxTapeRing : ℕ
 maxTapeRing = 510
 
--- TAPES. The bytes of a tape, of the longest canonical tape, and of the buffer that every answer of the screen fits: ten
--- numbers of four bytes and that tape
+-- TAPES. The bytes of a tape, of the longest canonical tape, and of the buffer that every answer of the screen fits:
+-- ten numbers of four bytes and that tape
 abbrev pub maxTape : ℕ
 maxTape = 65536
 

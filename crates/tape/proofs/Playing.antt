@@ -100,7 +100,7 @@ module _ (w₀ : Table) (tape : List ℕ) (w : Table) (rest : List ℕ) (k : ℕ
       whole : Reads rest (Whole i n)
       whole = wholeRead rest r a i n b
 
-      -- its command has the fault f and leaves v
+      -- its command has the refusal f and leaves v
       module _
           (f : ℕ) (e : f ≡ stepRefusal w (meaning rest i)) (v : Table) (l : v ≡ stepLeaves w (meaning rest i)) where
         pub playingStopped : (f ≡ 0 → ⊥) → Told (runOf w₀ tape) f k v

@@ -1,4 +1,4 @@
--- A run is a fold of its commands, and every accepted command keeps the table sound. Assumes nothing.
+-- A run is a fold of its commands, and after every accepted one the table holds a hypermap. Assumes nothing.
 use mathlib.Core.Path.{_≡_, refl, ap, _∙_}
 use mathlib.Core.Bool.{true}
 use mathlib.Core.List.{List, [], _∷_}
@@ -73,7 +73,8 @@ stepHolds w (cutsRing ws) s e = let i = acceptedCut w ws s e in (i .hypermap, i 
 
 -- whether it is accepted or not, there is as much room as before
 pub leavesWithin :
-    (w : Table) (c : TapeCommand) → WithinCapacity w → WithinCapacity (stepLeaves w c) × (length (stepLeaves w c) ≡ length w)
+    (w : Table) (c : TapeCommand) → WithinCapacity w →
+    WithinCapacity (stepLeaves w c) × (length (stepLeaves w c) ≡ length w)
 unfolding leaves
 leavesWithin w c k =
     byCases (eqb (stepRefusal w c) 0)

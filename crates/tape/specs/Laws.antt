@@ -41,7 +41,7 @@ pub record IsRun (w : Table) (cs : List TapeCommand) (n : ℕ) (o : Outcome) : T
 abbrev pub RunLaw : Type 0
 RunLaw = (w : Table) (cs : List TapeCommand) (n : ℕ) → IsRun w cs n (runOver w cs n)
 
--- a run keeps the table sound, and its length
+-- a run leaves a table that holds a hypermap, of the same length
 abbrev pub RunKeepsHypermapLaw : Type 0
 RunKeepsHypermapLaw =
     (w : Table) (tape : List ℕ) → holdsHypermap w ≡ true →

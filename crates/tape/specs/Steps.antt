@@ -1,5 +1,5 @@
--- What a tape's commands do to a sound table, one at a time. Document 01, "Commands" and "Refusals": 1 and 2 are the
--- caller's. Assumes nothing: these are definitions.
+-- What a tape's commands do to a table that holds a hypermap, one at a time. Document 01, "Commands" and "Refusals": 1
+-- and 2 are the caller's. Assumes nothing: these are definitions.
 use mathlib.Core.List.{List}
 use Prim.Native.Nat.{ℕ}
 use Rattle.table.specs.Layout.{Table}

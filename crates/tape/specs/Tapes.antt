@@ -50,7 +50,8 @@ commandOf bs =
 
 -- 15 for a byte that is no command, 16 where the tape ends inside the command
 unfoldable pub readRefusal : (tape : List ℕ) → ℕ
-readRefusal bs = orElse (unless (isCommand (byteOf bs)) unknownCommand) (unless (leb (sizeOf bs) (length bs)) tornCommand)
+readRefusal bs =
+    orElse (unless (isCommand (byteOf bs)) unknownCommand) (unless (leb (sizeOf bs) (length bs)) tornCommand)
 
 -- the tape behind the first command
 abbrev pub restOf : (tape : List ℕ) → List ℕ

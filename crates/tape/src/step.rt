@@ -1,5 +1,5 @@
-// One command of a tape on a table within the capacity. What it leaves holds a hypermap again, so a run judges its table
-// once.
+// One command of a tape on a table within the capacity. What it leaves holds a hypermap again, so a run judges its
+// table once.
 ghost use mathlib.Core.Path.{_≡_};
 ghost use Prim.Native.Nat.{_*_};
 ghost use Rattle.table.specs.Inner.{WithinCapacity};

@@ -34,7 +34,9 @@ runWhole w (c ∷ cs) n a =
     rw (eq-eqb (stepRefusal w c) 0 (a .0)) (ap oneMore (runWhole (stepOn w c) cs n (a .1)))
 
 -- TABLES of the same darts and successors: the predecessors are the same too
-module _ (v w : Table) (sv : holdsHypermap v ≡ true) (sw : holdsHypermap w ≡ true) (d : hypermapOf v .darts ≡ hypermapOf w .darts)
+module _
+    (v w : Table) (sv : holdsHypermap v ≡ true) (sw : holdsHypermap w ≡ true)
+    (d : hypermapOf v .darts ≡ hypermapOf w .darts)
     (next : (k : Dimension) (x : ℕ) → isPresent w x ≡ true → wordAt v x (nextWord k) ≡ wordAt w x (nextWord k)) where
   sameBack : (k : Dimension) (x : ℕ) → isPresent w x ≡ true → wordAt v x (backWord k) ≡ wordAt w x (backWord k)
   sameBack k x p =

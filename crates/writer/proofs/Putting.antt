@@ -1,5 +1,5 @@
--- The puts of a canonical tape, on a table of zeros: each is accepted, and they leave a sound table with the darts of
--- the tape's table, each alone. Assumes nothing.
+-- The puts of a canonical tape, on a table of zeros: each is accepted, and they leave a table with the darts of the
+-- tape's table, each alone. Assumes nothing.
 use mathlib.Core.Path.{_≡_, refl, sym, _∙_}
 use mathlib.Core.Bool.{true, false, _||_}
 use mathlib.Core.List.{List, [], _∷_, map}

@@ -27,7 +27,7 @@ BuildLaw =
     (w : Table) → holdsHypermap w ≡ true → length w ≡ wordsPerDart * capacity w →
     IsBuilt w (runOf (replicate (length w) 0) (tapeOf w))
 
--- unequal sound tables of one size never share a tape
+-- unequal tables of one size never share a tape
 abbrev pub OnlyTapeLaw : Type 0
 OnlyTapeLaw =
     (v w : Table) → holdsHypermap v ≡ true → holdsHypermap w ≡ true → length v ≡ wordsPerDart * capacity v →

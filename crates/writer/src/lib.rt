@@ -1,5 +1,5 @@
-// Tapes written: the canonical tape of a table, and the screen's answer. Inner functions: they may require a sound
-// table.
+// Tapes written: the canonical tape of a table, and the screen's answer. Inner functions: they may require a
+// table within the capacity.
 
 pub mod screen;
 pub mod write;

@@ -8,7 +8,8 @@ returns c = questionFirst _ _ _ (c .before .table-refusal .ensures) (c .if1 .tak
 
 returns-2 : tie.Need-returns-2
 returns-2 c =
-    let t = c .before in questionRest _ _ _ (t .before .table-refusal .ensures) _ (t .if1 .left) (c .dart-refusal .ensures)
+    let t = c .before in
+    questionRest _ _ _ (t .before .table-refusal .ensures) _ (t .if1 .left) (c .dart-refusal .ensures)
 
 pub dart-question-refusal-spec : {M : Type 1} → statement M
 dart-question-refusal-spec = tie.close (tie.spec (λ c κs. search needs) returns (λ c κs. search needs) returns-2)

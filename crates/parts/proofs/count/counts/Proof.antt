@@ -21,7 +21,8 @@ module _ (f : tie.After-flood-all) where
 
   is : markedIn (s .args .table .now) (f .flood-all .last .1 .0) 1 ≡ hypermapOf (s .args .table .now)
   is =
-      allIs _ (s .pre .hypermap) (s .pre .room) maxCapacity (s .pre .room) _ (f .flood-all .kept .1 .0) (f .flood-all .ensures .1)
+      allIs _ (s .pre .hypermap) (s .pre .room) maxCapacity (s .pre .room) _ (f .flood-all .kept .1 .0)
+      (f .flood-all .ensures .1)
 
 marked-counts-requires : tie.Need-marked-counts-requires
 unfolding floodedOf

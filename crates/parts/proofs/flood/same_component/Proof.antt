@@ -9,7 +9,8 @@ use Rattle.parts.proofs.flood.same_component.Tie as tie
 flood-requires : tie.Need-flood-requires
 flood-requires c κs =
     let p = c .before .before .before .pre in
-    unmarkedZeros _ _ _ (record { hypermap = p .both .hypermap; here = p .both .first }) (omega arith) maxCapacity (p .room) (p .room)
+    unmarkedZeros _ _ _ (record { hypermap = p .both .hypermap; here = p .both .first }) (omega arith) maxCapacity
+    (p .room) (p .room)
 
 mark-of-requires : tie.Need-mark-of-requires
 mark-of-requires c κs =
@@ -23,7 +24,8 @@ returns c =
     let f = c .before .before .before .before in
     let p = f .before .before .before .before .pre in
     rw (c .mark-of .ensures)
-    (floodedTest _ _ _ (record { hypermap = p .both .hypermap; here = p .both .first }) (omega arith) maxCapacity (p .room) (p .room)
+    (floodedTest _ _ _ (record { hypermap = p .both .hypermap; here = p .both .first }) (omega arith) maxCapacity
+    (p .room) (p .room)
     _ _ (p .both .second) (f .flood .ensures .1))
 
 pub same-component-spec : {M : Type 1} → statement M

@@ -45,37 +45,43 @@ returns : tie.Need-returns
 returns c =
     let u = c .before .before in
     let r = u .before .before in
-    rw (r .before .before .before .change .given .1) (made _ _ _ _ _ _ (r .put-refusal .ensures) (u .write-all-unless .ensures))
+    rw (r .before .before .before .change .given .1)
+    (made _ _ _ _ _ _ (r .put-refusal .ensures) (u .write-all-unless .ensures))
 
 returns-2 : tie.Need-returns-2
 returns-2 c =
     let u = c .before .before in
     let r = u .before .before in
-    rw (r .before .before .before .change2 .given .1) (made _ _ _ _ _ _ (r .take-out-refusal .ensures) (u .write-all-unless2 .ensures))
+    rw (r .before .before .before .change2 .given .1)
+    (made _ _ _ _ _ _ (r .take-out-refusal .ensures) (u .write-all-unless2 .ensures))
 
 returns-3 : tie.Need-returns-3
 returns-3 c =
     let u = c .before .before in
     let r = u .before .before in
-    rw (r .before .before .before .change3 .given .1) (made _ _ _ _ _ _ (r .join-refusal .ensures) (u .write-swap-unless .ensures))
+    rw (r .before .before .before .change3 .given .1)
+    (made _ _ _ _ _ _ (r .join-refusal .ensures) (u .write-swap-unless .ensures))
 
 returns-4 : tie.Need-returns-4
 returns-4 c =
     let u = c .before .before in
     let r = u .before .before in
-    rw (r .before .before .before .change4 .given .1) (made _ _ _ _ _ _ (r .cut-refusal .ensures) (u .write-swap-unless2 .ensures))
+    rw (r .before .before .before .change4 .given .1)
+    (made _ _ _ _ _ _ (r .cut-refusal .ensures) (u .write-swap-unless2 .ensures))
 
 returns-5 : tie.Need-returns-5
 returns-5 c =
     let u = c .before .before in
     let r = u .before .before in
-    rw (r .before .before .before .change5 .given .1) (made _ _ _ _ _ _ (r .join-refusal2 .ensures) (u .write-swap-unless3 .ensures))
+    rw (r .before .before .before .change5 .given .1)
+    (made _ _ _ _ _ _ (r .join-refusal2 .ensures) (u .write-swap-unless3 .ensures))
 
 returns-6 : tie.Need-returns-6
 returns-6 c =
     let u = c .before .before in
     let r = u .before .before in
-    rw (r .before .before .before .change6 .given .1) (made _ _ _ _ _ _ (r .cut-refusal2 .ensures) (u .write-swap-unless4 .ensures))
+    rw (r .before .before .before .change6 .given .1)
+    (made _ _ _ _ _ _ (r .cut-refusal2 .ensures) (u .write-swap-unless4 .ensures))
 
 pub perform-spec : {M : Type 1} → statement M
 perform-spec =

@@ -14,7 +14,8 @@ add-size c = let h = commandSmall 8 in let e = c .before .command-size .ensures 
 
 sized :
     (c : tie.After-byte-to-usize) →
-    Sized (c .before .before .before .before .args .tape .now) (c .before .command-size .result + 4 * c .byte-to-usize .result)
+    Sized (c .before .before .before .before .args .tape .now)
+    (c .before .command-size .result + 4 * c .byte-to-usize .result)
 sized c = ringSized (c .before .before .before .before .pre .0) (cc)
 
 returns-2 : tie.Need-returns-2
