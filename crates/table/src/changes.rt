@@ -3,8 +3,8 @@
 ghost use mathlib.Core.Path.{_≡_};
 ghost use mathlib.Core.List.{[], _∷_};
 ghost use Rattle.table.specs.Limits.{edgeNext};
-ghost use Rattle.table.specs.Commands.{isAlone, presenceRefusal, commandRefusal, commandOn, commandLeaves};
-ghost use Rattle.table.specs.Commands.{puts, takesOut, joins, cuts, withAll, swapped, leaves};
+ghost use Rattle.table.specs.Commands.{isAlone, isTogether, presenceRefusal, commandRefusal, commandOn};
+ghost use Rattle.table.specs.Commands.{puts, takesOut, joins, cuts, withAll, swapped, leaves, commandLeaves};
 ghost use Rattle.table.specs.Inner.{InTable, WithinCapacity, WithinCapacityAtBoth, Accepts, Storable};
 ghost use Rattle.table.specs.Inner.{dimensionOf, commandFor};
 use crate::Change;
@@ -17,7 +17,7 @@ use crate::walk;
 use crate::words;
 use crate::words::to_word;
 
-// PRESENCE
+// WHAT IS JUDGED
 
 // 3, then 4, of one dart.
 pub fn dart_refusal(table: &[u16], x: u32) -> u8
@@ -50,6 +50,14 @@ pub fn is_alone(table: &[u16], x: u16) -> bool
     (words::word(table, x, EDGE_NEXT) == x) & (words::word(table, x, VERTEX_NEXT) == x)
 }
 
+// Whether a and b lie in one edge or vertex.
+fn are_together(table: &[u16], d: Dimension, a: u32, b: u32) -> bool
+    requires { ⌜ WithinCapacityAtBoth (now table) a b ⌝ }
+    ensures { λ r. ⌜ r ≡ isTogether (now (table .entry)) (dimensionOf d) a b ⌝ }
+{
+    walk::is_together(table, d, to_word(a), to_word(b))
+}
+
 // THE REFUSAL of a change
 
 fn put_refusal(table: &[u16], x: u32) -> u8
@@ -80,10 +88,7 @@ fn join_refusal(table: &[u16], d: Dimension, a: u32, b: u32) -> u8
     if refusal != 0 {
         return refusal;
     }
-    refusals::unless_so(
-        !walk::is_together(table, d, to_word(a), to_word(b)),
-        refusals::TOGETHER,
-    )
+    refusals::unless_so(!are_together(table, d, a, b), refusals::TOGETHER)
 }
 
 fn cut_refusal(table: &[u16], d: Dimension, a: u32, b: u32) -> u8
@@ -95,10 +100,7 @@ fn cut_refusal(table: &[u16], d: Dimension, a: u32, b: u32) -> u8
         return refusal;
     }
     refusals::or_else(
-        refusals::unless_so(
-            walk::is_together(table, d, to_word(a), to_word(b)),
-            refusals::APART,
-        ),
+        refusals::unless_so(are_together(table, d, a, b), refusals::APART),
         refusals::unless_so(!(a == b), refusals::SAME_TAB),
     )
 }

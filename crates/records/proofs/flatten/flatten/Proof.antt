@@ -81,7 +81,7 @@ Fit 𝓤 H A mem run = tripleOf 𝓤 H A fit.signature (fit.spec 𝓤 H A mem ru
 abbrev linkVals : DoubleLink → List Val
 linkVals = LL.vals X.the-type X′.the-laws
 
-fits64 : {k : ℕ} → k < maxRing → Fits w64 k
+fits64 : {k : ℕ} → k < 4 * maxRing → Fits w64 k
 fits64 l = record { fits = lt-of-lt-of-le l (lit≤ tt) }
 
 module _ {M : Type 1} (𝓤 : URA M) (H : Heap 𝓤) (A : Atoms 𝓤) (W : Given 𝓤 H A) (mem : Memory → SProp 𝓤)

@@ -87,33 +87,15 @@ pub perform-spec : {M : Type 1} → statement M
 perform-spec =
     tie.close
     (tie.spec
-    (λ c. search needs)
-    (λ c κs. search needs)
-    write-all-unless-requires
-    (λ c. search needs)
-    (λ c κs. search needs)
-    write-all-unless-requires-2
-    (λ c. search needs)
-    (λ c κs. search needs)
-    write-swap-unless-requires
-    (λ c. search needs)
-    (λ c κs. search needs)
-    write-swap-unless-requires-2
-    (λ c. search needs)
-    (λ c κs. search needs)
-    write-swap-unless-requires-3
-    (λ c. search needs)
-    (λ c κs. search needs)
-    write-swap-unless-requires-4
-    (λ c. search needs)
-    returns
-    (λ c. search needs)
-    returns-2
-    (λ c. search needs)
-    returns-3
-    (λ c. search needs)
-    returns-4
-    (λ c. search needs)
-    returns-5
-    (λ c. search needs)
-    returns-6)
+    (λ c. search needs) (λ c κs. search needs) write-all-unless-requires
+    (λ c. search needs) (λ c κs. search needs) write-all-unless-requires-2
+    (λ c. search needs) (λ c κs. search needs) write-swap-unless-requires
+    (λ c. search needs) (λ c κs. search needs) write-swap-unless-requires-2
+    (λ c. search needs) (λ c κs. search needs) write-swap-unless-requires-3
+    (λ c. search needs) (λ c κs. search needs) write-swap-unless-requires-4
+    (λ c. search needs) returns
+    (λ c. search needs) returns-2
+    (λ c. search needs) returns-3
+    (λ c. search needs) returns-4
+    (λ c. search needs) returns-5
+    (λ c. search needs) returns-6)

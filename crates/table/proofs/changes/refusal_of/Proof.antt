@@ -24,21 +24,10 @@ pub refusal-of-spec : {M : Type 1} → statement M
 refusal-of-spec =
     tie.close
     (tie.spec
-    (λ c. search needs)
-    (λ c κs. search needs)
-    (λ c. search needs)
-    (λ c κs. search needs)
-    (λ c. search needs)
-    (λ c κs. search needs)
-    (λ c. search needs)
-    (λ c κs. search needs)
-    (λ c. search needs)
-    (λ c κs. search needs)
-    (λ c. search needs)
-    (λ c κs. search needs)
-    returns
-    returns-2
-    returns-3
-    returns-4
-    returns-5
-    returns-6)
+    (λ c. search needs) (λ c κs. search needs)
+    (λ c. search needs) (λ c κs. search needs)
+    (λ c. search needs) (λ c κs. search needs)
+    (λ c. search needs) (λ c κs. search needs)
+    (λ c. search needs) (λ c κs. search needs)
+    (λ c. search needs) (λ c κs. search needs)
+    returns returns-2 returns-3 returns-4 returns-5 returns-6)

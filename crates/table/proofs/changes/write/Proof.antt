@@ -49,27 +49,15 @@ pub write-spec : {M : Type 1} → statement M
 write-spec =
     tie.close
     (tie.spec
-    (λ c. search needs)
-    write-all-requires
-    (λ c. search needs)
-    write-all-requires-2
-    (λ c. search needs)
-    write-swap-requires
-    (λ c. search needs)
-    write-swap-requires-2
-    (λ c. search needs)
-    write-swap-requires-3
-    (λ c. search needs)
-    write-swap-requires-4
-    (λ c. search needs)
-    returns
-    (λ c. search needs)
-    returns-2
-    (λ c. search needs)
-    returns-3
-    (λ c. search needs)
-    returns-4
-    (λ c. search needs)
-    returns-5
-    (λ c. search needs)
-    returns-6)
+    (λ c. search needs) write-all-requires
+    (λ c. search needs) write-all-requires-2
+    (λ c. search needs) write-swap-requires
+    (λ c. search needs) write-swap-requires-2
+    (λ c. search needs) write-swap-requires-3
+    (λ c. search needs) write-swap-requires-4
+    (λ c. search needs) returns
+    (λ c. search needs) returns-2
+    (λ c. search needs) returns-3
+    (λ c. search needs) returns-4
+    (λ c. search needs) returns-5
+    (λ c. search needs) returns-6)

@@ -11,12 +11,7 @@ to-word-requires-2 c κs = let p = c .before .before .before .pre in numberSmall
 
 swap-requires : tie.Need-swap-requires
 swap-requires c κs =
-    let p = c .before .before .before .before .pre in
-    record {
-      hypermap = p .both .hypermap;
-      first = rw (c .before .to-word .ensures) (p .both .first);
-      second = rw (c .to-word2 .ensures) (p .both .second);
-    }
+    rw (c .before .to-word .ensures, c .to-word2 .ensures) (c .before .before .before .before .pre .both)
 
 returns : tie.Need-returns
 returns c = cc
