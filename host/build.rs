@@ -1,6 +1,6 @@
-//! Links the kernel's static library, which `rt staticlib c_calls` writes. With the feature `compare` it links a copy of
-//! it and the library of another revision instead, which scripts/compare writes; COMPARE_FIRST, `before` or `now`, says
-//! which comes first.
+//! Links the kernel's static library, which `rt staticlib c_calls` writes. With the feature `compare` it links a copy
+//! of it and the library of another revision instead, which scripts/compare writes; COMPARE_FIRST, `before` or `now`,
+//! says which comes first.
 
 use std::env;
 

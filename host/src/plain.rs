@@ -31,7 +31,7 @@ fn is_sound(table: &[u16]) -> bool {
     })
 }
 
-pub fn table_fault(table: &[u16]) -> u8 {
+pub fn table_refusal(table: &[u16]) -> u8 {
     if table.len() % 4 != 0 || table.len() > MAX_WORDS {
         1
     } else if is_sound(table) {
@@ -186,21 +186,21 @@ fn piece_counts(table: &[u16], tab: u16) -> Totals {
 }
 
 pub fn report(table: &[u16]) -> Totals {
-    match table_fault(table) {
+    match table_refusal(table) {
         0 => counts(table),
         number => Totals { number, ..Totals::default() },
     }
 }
 
-fn question_fault(table: &[u16], tab: u16) -> u8 {
-    match table_fault(table) {
+fn question_refusal(table: &[u16], tab: u16) -> u8 {
+    match table_refusal(table) {
         0 => presence(table, &[tab]),
-        fault => fault,
+        refusal => refusal,
     }
 }
 
 pub fn piece_report(table: &[u16], tab: u16) -> Totals {
-    match question_fault(table, tab) {
+    match question_refusal(table, tab) {
         0 => piece_counts(table, tab),
         number => Totals { number, ..Totals::default() },
     }
@@ -228,7 +228,7 @@ fn write_gap(table: &[u16], tab: u16, out: &mut [u16]) -> Answer {
 }
 
 pub fn gap_round(table: &[u16], tab: u16, out: &mut [u16]) -> Answer {
-    match question_fault(table, tab) {
+    match question_refusal(table, tab) {
         0 => write_gap(table, tab, out),
         number => Answer { number, ..Answer::default() },
     }
@@ -304,7 +304,7 @@ fn take_out_on(table: &mut [u16], tab: u16) -> u8 {
             set_all(table, tab, 0);
             0
         }
-        fault => fault,
+        refusal => refusal,
     }
 }
 
@@ -315,7 +315,7 @@ fn join_on(table: &mut [u16], dimension: Dimension, a: u16, b: u16) -> u8 {
             swap(table, dimension, a, b);
             0
         }
-        fault => fault,
+        refusal => refusal,
     }
 }
 
@@ -327,21 +327,21 @@ fn cut_on(table: &mut [u16], dimension: Dimension, a: u16, b: u16) -> u8 {
             swap(table, dimension, a, b);
             0
         }
-        fault => fault,
+        refusal => refusal,
     }
 }
 
 pub fn put(table: &mut [u16], tab: u16) -> u8 {
-    match table_fault(table) {
+    match table_refusal(table) {
         0 => put_on(table, tab),
-        fault => fault,
+        refusal => refusal,
     }
 }
 
 pub fn join(table: &mut [u16], dimension: Dimension, a: u16, b: u16) -> u8 {
-    match table_fault(table) {
+    match table_refusal(table) {
         0 => join_on(table, dimension, a, b),
-        fault => fault,
+        refusal => refusal,
     }
 }
 
@@ -359,13 +359,13 @@ fn mark_firsts(table: &[u16], step: impl Fn(&[u16], u16) -> u16 + Copy, ring: &[
     apart
 }
 
-fn ring_fault(table: &[u16], ring: &[u16]) -> u8 {
+fn ring_refusal(table: &[u16], ring: &[u16]) -> u8 {
     if ring.is_empty() || ring.len() % 2 != 0 || ring.len() > 4096 {
         return 10;
     }
-    let fault = presence(table, ring);
-    if fault != 0 {
-        return fault;
+    let refusal = presence(table, ring);
+    if refusal != 0 {
+        return refusal;
     }
     let mark = |marks: &[u16], tab: u16| marks[tab as usize - 1];
     let mut ties = [0; 4096];
@@ -391,19 +391,19 @@ fn ring_fault(table: &[u16], ring: &[u16]) -> u8 {
 }
 
 fn ring_cut_on(table: &mut [u16], ring: &[u16]) -> u8 {
-    let fault = ring_fault(table, ring);
-    if fault == 0 {
+    let refusal = ring_refusal(table, ring);
+    if refusal == 0 {
         for pair in ring.chunks_exact(2) {
             swap(table, Dimension::Tie, pair[0], pair[1]);
         }
     }
-    fault
+    refusal
 }
 
 pub fn ring_cut(table: &mut [u16], ring: &[u16]) -> u8 {
-    match table_fault(table) {
+    match table_refusal(table) {
         0 => ring_cut_on(table, ring),
-        fault => fault,
+        refusal => refusal,
     }
 }
 
@@ -475,7 +475,7 @@ pub fn play(table: &mut [u16], tape: &[u8]) -> Run {
     if tape.len() > MAX_TAPE {
         return Run { number: 1, accepted: 0 };
     }
-    match table_fault(table) {
+    match table_refusal(table) {
         0 => run(table, tape),
         number => Run { number, accepted: 0 },
     }
@@ -570,7 +570,7 @@ fn write_on(table: &[u16], out: &mut [u8]) -> Answer {
 }
 
 pub fn write_tape(table: &[u16], out: &mut [u8]) -> Answer {
-    match table_fault(table) {
+    match table_refusal(table) {
         0 => write_on(table, out),
         number => Answer { number, ..Answer::default() },
     }

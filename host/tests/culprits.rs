@@ -42,7 +42,7 @@ fn refused_command(random: &mut Random, plan: &Plan) -> Command {
             0 => crossings_of_ties(random, plan),
             _ => plans::command(random, &near),
         };
-        if command.fits_tape() && plan.fault(&command) != 0 {
+        if command.fits_tape() && plan.refusal(&command) != 0 {
             return command;
         }
     }
@@ -140,7 +140,7 @@ fn culprits_are_right() {
     for _ in 0..10_000 {
         let plan = Plan { capacity: MAX_CAPACITY, ..any_plan(&mut random) };
         let command = refused_command(&mut random, &plan);
-        let number = plan.fault(&command);
+        let number = plan.refusal(&command);
         let mut rest = write(&command);
         rest.extend((0..random.below(4)).map(|_| random.next() as u8));
         *met.entry((number, command.byte())).or_default() += 1;

@@ -59,8 +59,8 @@ fn refused(number: u8) -> Answer {
 }
 
 /// A list into a buffer: the answer, and the buffer afterwards.
-fn listed<T: Copy>(fault: u8, list: &[T], out: &[T]) -> (Answer, Vec<T>) {
-    let number = if fault == 0 && out.len() < list.len() { 14 } else { fault };
+fn listed<T: Copy>(refusal: u8, list: &[T], out: &[T]) -> (Answer, Vec<T>) {
+    let number = if refusal == 0 && out.len() < list.len() { 14 } else { refusal };
     if number != 0 {
         return (refused(number), out.to_vec());
     }
@@ -78,7 +78,7 @@ impl Lent {
         Lent::new(&plan.to_words())
     }
 
-    fn fault(&self) -> u8 {
+    fn refusal(&self) -> u8 {
         match self.plan {
             Ok(_) => 0,
             Err(number) => number,
@@ -90,9 +90,9 @@ impl Lent {
         self.plan.clone().unwrap_or_default()
     }
 
-    fn question_fault(&self, tabs: &[Tab]) -> u8 {
+    fn question_refusal(&self, tabs: &[Tab]) -> u8 {
         match &self.plan {
-            Ok(plan) => plan.question_fault(tabs),
+            Ok(plan) => plan.question_refusal(tabs),
             Err(number) => *number,
         }
     }
@@ -157,7 +157,7 @@ impl Lent {
 
     /// The report of one tab's piece.
     pub fn component_report(&self, met: &mut Met, tab: Tab) -> Totals {
-        let expected = match self.question_fault(&[tab]) {
+        let expected = match self.question_refusal(&[tab]) {
             0 => totals(&self.plan().piece_alone(tab)),
             number => Totals { number, ..Totals::default() },
         };
@@ -170,7 +170,7 @@ impl Lent {
     /// The reports of all pieces, each by its smallest tab, add up to the plan's.
     pub fn component_reports(&self, met: &mut Met) {
         let plan = self.plan();
-        let mut sum = Totals { number: self.fault(), ..Totals::default() };
+        let mut sum = Totals { number: self.refusal(), ..Totals::default() };
         for piece in plan.parts(Part::Piece) {
             let t = self.component_report(met, *piece.first().expect("a piece has a tab"));
             assert_eq!(t.cells + t.ties + t.gaps + 2 * t.handles, 2 + t.tabs, "Euler's formula of a piece");
@@ -193,7 +193,7 @@ impl Lent {
             Part::Gap => binding::same_face(words, a, b),
             Part::Piece => binding::same_component(words, a, b),
         });
-        let number = self.question_fault(&[a, b]);
+        let number = self.question_refusal(&[a, b]);
         let yes = number == 0 && self.plan().part(part, a).contains(&b);
         assert_eq!(answer, Answer { number, yes, count: 0 }, "same {part:?} of {a} and {b}");
         met.note(number);
@@ -217,29 +217,29 @@ impl Lent {
     }
 
     pub fn round(&self, met: &mut Met, part: Part, tab: Tab, room: usize) {
-        let fault = self.question_fault(&[tab]);
-        let list: Vec<u16> = match fault {
+        let refusal = self.question_refusal(&[tab]);
+        let list: Vec<u16> = match refusal {
             0 => self.plan().part(part, tab).iter().map(|&t| t as u16).collect(),
             _ => vec![],
         };
-        self.list(met, "a round", (fault, &list), &vec![0xEEEE; room], |words, out| match part {
+        self.list(met, "a round", (refusal, &list), &vec![0xEEEE; room], |words, out| match part {
             Part::Tie => binding::edge_round(words, tab, out),
             Part::Cell => binding::vertex_round(words, tab, out),
             _ => binding::face_round(words, tab, out),
         });
-        if fault == 0 && list.len() <= room {
+        if refusal == 0 && list.len() <= room {
             met.longest_round = met.longest_round.max(list.len());
         }
     }
 
     pub fn marks(&self, met: &mut Met, room: usize) {
         let marks = self.plan().marks();
-        self.list(met, "marks", (self.fault(), &marks), &vec![0xEEEE; room], binding::component_marks);
+        self.list(met, "marks", (self.refusal(), &marks), &vec![0xEEEE; room], binding::component_marks);
     }
 
     pub fn write_tape(&self, met: &mut Met, room: usize) {
         let tape = self.plan().tape();
-        self.list(met, "a tape", (self.fault(), &tape), &vec![0xEE; room], binding::write_tape);
+        self.list(met, "a tape", (self.refusal(), &tape), &vec![0xEE; room], binding::write_tape);
     }
 
     pub fn play(&mut self, met: &mut Met, tape: &[u8]) -> Run {

@@ -79,7 +79,7 @@ pub fn undergone(capacity: usize, commands: &[Command]) -> Option<Undergone> {
     let mut plan = Plan::empty(capacity);
     let mut met = Undergone { most_tabs: 0, changed_words: 0 };
     for command in commands {
-        if plan.fault(command) != 0 {
+        if plan.refusal(command) != 0 {
             return None;
         }
         for single in crossing_by_crossing(command) {

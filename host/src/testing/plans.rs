@@ -99,7 +99,7 @@ impl Grid {
         // the path goes round one way with the inner tab first, and the other way with the outer one
         let inner_first: Vec<Tab> = pairs.iter().flat_map(|&(a, b)| [a, b]).collect();
         let outer_first: Vec<Tab> = pairs.iter().flat_map(|&(a, b)| [b, a]).collect();
-        match self.plan.fault(&Command::Ring(inner_first.clone())) {
+        match self.plan.refusal(&Command::Ring(inner_first.clone())) {
             0 => inner_first,
             _ => outer_first,
         }

@@ -219,7 +219,7 @@ impl Plan {
         }
     }
 
-    pub fn question_fault(&self, tabs: &[Tab]) -> u8 {
+    pub fn question_refusal(&self, tabs: &[Tab]) -> u8 {
         self.presence(tabs)
     }
 
@@ -235,7 +235,7 @@ impl Plan {
         }
     }
 
-    fn ring_fault(&self, words: &[Tab]) -> u8 {
+    fn ring_refusal(&self, words: &[Tab]) -> u8 {
         if words.is_empty() || words.len() % 2 != 0 || words.len() > MAX_RING {
             return 10;
         }
@@ -268,7 +268,7 @@ impl Plan {
     }
 
     /// The command's refusal, or 0.
-    pub fn fault(&self, command: &Command) -> u8 {
+    pub fn refusal(&self, command: &Command) -> u8 {
         let together = |dimension, a, b| follow(a, |t| self.map(dimension)[&t]).contains(&b);
         match *command {
             Command::Put(t) if !self.is_number(t) => 3,
@@ -276,26 +276,26 @@ impl Plan {
             Command::Put(_) | Command::Report => 0,
             Command::TakeOut(t) => match self.presence(&[t]) {
                 0 if self.tie[&t] != t || self.cell[&t] != t => 6,
-                fault => fault,
+                refusal => refusal,
             },
             Command::Join(d, a, b) => match self.presence(&[a, b]) {
                 0 if together(d, a, b) => 7,
-                fault => fault,
+                refusal => refusal,
             },
             Command::Cut(d, a, b) => match self.presence(&[a, b]) {
                 0 if !together(d, a, b) => 8,
                 0 if a == b => 9,
-                fault => fault,
+                refusal => refusal,
             },
-            Command::Ring(ref words) => self.ring_fault(words),
+            Command::Ring(ref words) => self.ring_refusal(words),
         }
     }
 
     /// Makes the command's change where it is accepted; its refusal, or 0.
     pub fn apply(&mut self, command: &Command) -> u8 {
-        let fault = self.fault(command);
-        if fault != 0 {
-            return fault;
+        let refusal = self.refusal(command);
+        if refusal != 0 {
+            return refusal;
         }
         match command {
             Command::Put(t) => {

@@ -10,7 +10,8 @@ to-word-requires-2 : tie.Need-to-word-requires-2
 to-word-requires-2 c κs = let p = c .before .before .pre in numberSmall _ _ (p .room) (p .both .second)
 
 is-together-requires : tie.Need-is-together-requires
-is-together-requires c κs = rw (c .before .to-word .ensures, c .to-word2 .ensures) (c .before .before .before .pre .both)
+is-together-requires c κs =
+    rw (c .before .to-word .ensures, c .to-word2 .ensures) (c .before .before .before .pre .both)
 
 returns : tie.Need-returns
 returns c = cc
