@@ -81,10 +81,6 @@ pub givenAnswer :
 unfolding answer
 givenAnswer f n t k e z = rw (eq-eqb n 0 (sym e ∙ z))
 
-pub answerNumber : (n : ℕ) (t : Bool) (k : ℕ) → answer n t k .number ≡ n
-unfolding answer
-answerNumber n t k = byCases (eqb n 0) (λ e. rw e (sym (eqb-true n 0 e))) (λ e. rw e)
-
 -- a refused report, and one that is not
 pub reportStopped : (n : ℕ) (m : Hypermap) (f : ℕ) → f ≡ n → (f ≡ 0 → ⊥) → refusedTotals f ≡ reportOn n m
 unfolding reportOn
@@ -95,23 +91,7 @@ pub givenReport :
 unfolding reportOn
 givenReport n m f c e z q = rw (eq-eqb n 0 (sym e ∙ z)) (ap totalsOf q)
 
--- LISTS: what an accepted one has passed
-pub listPassed : (n : ℕ) (xs o : List ℕ) → listAnswer n xs o .number ≡ 0 → (n ≡ 0) × (listRefusal n xs o ≡ 0)
-unfolding listAnswer listRefusal
-listPassed n xs o e =
-    let z = sym (answerNumber (listRefusal n xs o) false (length xs)) ∙ e in
-    (passed n (unless (leb (length xs) (length o)) shortRoom) z .0, z)
-
--- with room for the list, only what comes before the room is refused
-pub listRoom : (n : ℕ) (xs o : List ℕ) → (n ≡ 0 → length xs ≤ length o) → listAnswer n xs o .number ≡ n
-unfolding listAnswer listRefusal unless
-listRoom n xs o h =
-    answerNumber (listRefusal n xs o) false (length xs) ∙
-    byCases (eqb n 0)
-    (λ t. let z = eqb-true n 0 t in sym (refusedSecond n _ n n refl z (rw (le-leb (length xs) (length o) (h z)) z)))
-    (λ t. sym (refusedFirst n _ n refl (eqb-false n 0 t)))
-
--- refused before the room is judged, for want of room, or written
+-- LISTS: refused before the room is judged, for want of room, or written
 module _ (n : ℕ) (xs o : List ℕ) (f : ℕ) (e : f ≡ n) where
   pub listFirst :
       (r : Answer) → r ≡ refusedAnswer f → (f ≡ 0 → ⊥) → (r ≡ listAnswer n xs o) × (o ≡ listLeaves n xs o)

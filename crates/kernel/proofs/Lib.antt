@@ -2,14 +2,3 @@ pub mod Answering
 pub mod Judging
 pub mod Tapes
 pub mod ScreenCall
-pub mod Plans
-pub mod RingDemand
-pub mod RefusalNumbers
-pub mod FirstDemand
-pub mod SecondDemand
-pub mod ThirdDemand
-pub mod Demands
-pub mod TapeNeeds
-pub mod Lifts
-pub mod Rounds
-pub mod ComponentReports

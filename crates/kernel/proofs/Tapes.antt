@@ -12,14 +12,16 @@ use Rattle.hypermap.proofs.Basics.Bools.{byCases}
 use Rattle.table.specs.Refusals.{wrongSize, shortRoom, unless}
 use Rattle.table.specs.Layout.{Table}
 use Rattle.table.proofs.Stages.{refusedFirst, refusedSecond}
+use Rattle.tape.specs.Tapes.{contentsOf}
 use Rattle.tape.specs.Runs.{Outcome, stopped, runOf, toldOf}
+use Rattle.needs.specs.Amounts.{refusedNeeds, neededBy}
 use Rattle.writer.specs.Canonical.{tapeOf}
 use Rattle.writer.specs.Inner.{writtenOf, writtenLeaves}
 use Rattle.tape.specs.declared.Run.{Run}
 use Rattle.writer.specs.declared.Written.{Written}
 use Rattle.soundness.specs.Soundness.{tableRefusal}
 use Rattle.table.specs.Limits.{maxTape}
-use Rattle.kernel.specs.Tapes.{tapeRefusal, playRefusal, playOutcome, tapeAnswer, tapeLeaves}
+use Rattle.kernel.specs.Tapes.{tapeRefusal, playRefusal, playOutcome, needsAnswer, tapeAnswer, tapeLeaves}
 use Rattle.kernel.specs.declared.Answer.{Answer}
 use Rattle.kernel.proofs.Answering.{listShort, listWritten}
 
@@ -68,6 +70,17 @@ module _ (w : Table) (bs : List ℕ) where
         f ≡ 0 → (r : Run) (v : Table) → (r ≡ toldOf (runOf w bs)) × (v ≡ runOf w bs .table) →
         (r ≡ toldOf (playOutcome w bs)) × (v ≡ playOutcome w bs .table)
     playRun z r v p = rw (played z) p
+
+-- THE NEEDS
+pub needsLong : (bs : List ℕ) → maxTape < length bs → refusedNeeds wrongSize ≡ needsAnswer bs
+unfolding needsAnswer
+needsLong bs l =
+    let e = tapeLong bs l in
+    rw (ne-eqb (tapeRefusal bs) 0 (λ z. absurd (omega arith)), e) refl
+
+pub needsRead : (bs : List ℕ) → length bs ≤ maxTape → neededBy (contentsOf bs) ≡ needsAnswer bs
+unfolding needsAnswer
+needsRead bs l = rw (eq-eqb (tapeRefusal bs) 0 (tapeShort bs l))
 
 -- A WRITTEN TAPE
 pub tapeWritten :

@@ -2,13 +2,13 @@
 -- definitions.
 use mathlib.Core.Bool.{Bool, false, cond}
 use mathlib.Core.List.{List, [], _∷_, _++_}
-use Prim.Native.Nat.{ℕ}
+use Prim.Native.Nat.{ℕ, _+_, _*_}
 use lib.Dec.{leb, eqb}
 use lib.IntN.{pos}
 use lib.ListN.{length, take, drop}
 use Rattle.hypermap.specs.Hypermap.{Hypermap, orbitOf, componentAt}
 use Rattle.table.specs.Refusals.{shortRoom, orElse, unless}
-use Rattle.table.specs.Limits.{wordsPerDart}
+use Rattle.table.specs.Limits.{wordsPerDart, bytesPerWord}
 use Rattle.table.specs.Layout.{Table, place, hypermapOf}
 use Rattle.table.specs.Commands.{Command, presenceRefusal, commandRefusal, commandOn, leaves}
 use Rattle.table.specs.Inner.{kindOf}
@@ -122,3 +122,8 @@ marksLeaves w o = listLeaves (tableRefusal w) (componentMarks w) o
 -- A LOOK: a dart's words in the table, empty where "same edge as itself" is refused
 unfoldable pub lookOf : Table → (x : ℕ) → List ℕ
 lookOf w x = cond (eqb (questionRefusal w (x ∷ x ∷ [])) 0) (take wordsPerDart (drop (place x 0) w)) []
+
+-- and where it begins, by block and byte: as many bytes into the table as the words before it have, and else where the
+-- table begins
+unfoldable pub lookPlace : Table → (x : ℕ) → (begin : ℕ × ℕ) → ℕ × ℕ
+lookPlace w x p = cond (eqb (questionRefusal w (x ∷ x ∷ [])) 0) (p .0, place x 0 * bytesPerWord + p .1) p

@@ -8,9 +8,12 @@ use lib.ListN.{length, drop, replicate}
 use Rattle.table.specs.Refusals.{wrongSize, shortRoom, orElse, unless}
 use Rattle.table.specs.Limits.{wordsPerDart, maxCapacity, maxTape, screenRoom}
 use Rattle.table.specs.Layout.{Table}
+use Rattle.tape.specs.Tapes.{contentsOf}
 use Rattle.tape.specs.Runs.{Outcome, stopped, runOf}
 use Rattle.writer.specs.Canonical.{tapeOf}
 use Rattle.writer.specs.Screens.{screenBytes}
+use Rattle.needs.specs.Amounts.{refusedNeeds, neededBy}
+use Rattle.needs.specs.declared.Needs.{Needs}
 use Rattle.soundness.specs.Soundness.{tableRefusal}
 use Rattle.kernel.specs.Calls.{listAnswer, listLeaves}
 use Rattle.kernel.specs.declared.Answer.{Answer}
@@ -32,6 +35,10 @@ tapeAnswer w o = listAnswer (tableRefusal w) (tapeOf w) o
 
 abbrev pub tapeLeaves : Table → (out : List ℕ) → List ℕ
 tapeLeaves w o = listLeaves (tableRefusal w) (tapeOf w) o
+
+-- THE NEEDS of a tape: 1 for its size, then the first 15 or 16
+unfoldable pub needsAnswer : (tape : List ℕ) → Needs
+needsAnswer bs = cond (eqb (tapeRefusal bs) 0) (neededBy (contentsOf bs)) (refusedNeeds (tapeRefusal bs))
 
 -- THE SCREEN'S CALL. Its buffer has room for every answer
 unfoldable pub screenRefusal : (tape out : List ℕ) → ℕ

@@ -1,14 +1,15 @@
 // The kernel's public calls: the whole of what a caller may use. None has a `requires`: whatever words are lent and
 // whatever numbers come, each call answers, and its contract says what, and what every lent word is afterwards.
 ghost use mathlib.Core.Path.{_≡_};
+ghost use denote.Ref.{ptr};
 ghost use Rattle.table.specs.Commands.{puts, takesOut, joins, cuts};
 ghost use Rattle.table.specs.Inner.{dimensionOf, commandFor};
 ghost use Rattle.kernel.specs.Calls.{callRefusal, callLeaves, ringCallRefusal, ringCallLeaves, reportOf};
 ghost use Rattle.kernel.specs.Calls.{componentReportOf, sameAnswer, roundAnswer, roundLeaves, marksAnswer};
-ghost use Rattle.kernel.specs.Calls.{marksLeaves, lookOf};
+ghost use Rattle.kernel.specs.Calls.{marksLeaves, lookOf, lookPlace};
 ghost use Rattle.tape.specs.Runs.{toldOf};
-ghost use Rattle.kernel.specs.Tapes.{playOutcome, tapeAnswer, tapeLeaves, screenRefusal, screenLeaves};
-ghost use Rattle.kernel.specs.TapeNeeds.{needsAnswer};
+ghost use Rattle.kernel.specs.Tapes.{playOutcome, needsAnswer, tapeAnswer, tapeLeaves};
+ghost use Rattle.kernel.specs.Tapes.{screenRefusal, screenLeaves};
 
 mod answers;
 mod questions;
@@ -216,9 +217,11 @@ pub fn component_marks(table: &[u16], out: &mut [u16]) -> Answer
     }
 }
 
-// The words of dart x in the table, not a copy; empty where "same edge as itself" is refused.
+// The words of dart x in the table, not a copy: the part returned begins at their place in the lent memory. Empty where
+// "same edge as itself" is refused.
 pub fn look<'a>(table: &'a [u16], x: u32) -> &'a [u16]
     ensures { λ r. ⌜ now r ≡ lookOf (now (table .entry)) x ⌝ }
+    ensures place { λ r. ⌜ ptr r ≡ lookPlace (now (table .entry)) x (ptr (table .entry)) ⌝ }
 {
     let refusal = questions::darts_question_refusal(table, x, x);
     if refusal == 0 {

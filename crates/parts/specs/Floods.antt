@@ -39,7 +39,7 @@ pub record Entering (w : Table) (y value : ℕ) (f : Front) : Type 0 where
 abbrev pub HasBack : Table → (z : ℕ) → Front → (i : ℕ) → Type 0
 HasBack w z f i = (i < f .tail) × (getD (f .queue) i 0 ≡ wordAt w z (backWord edge))
 
--- and what it is left with: it is marked, and behind the old tail stand the edge predecessors of its darts
+-- and what it is left with: it is marked, and after the old tail stand the edge predecessors of its darts
 pub record Entered (w : Table) (y value : ℕ) (f g : Front) : Type 0 where
   pub partMarked : PartMarked (orbitOf (hypermapOf w) face y) value (f .marks) (g .marks)
   pub places : HasPlaces g

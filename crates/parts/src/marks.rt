@@ -54,7 +54,7 @@ pub fn is_fresh(table: &[u16], marks: &[u16], x: u16) -> bool
     0 < words::word(table, x, EDGE_NEXT)
 }
 
-// Whether x and the three numbers behind it have marks.
+// Whether x and the three numbers after it have marks.
 fn are_marked(marks: &[u16], x: u16) -> bool
     requires { ⌜ HasFour (now marks) x ⌝ }
     ensures { λ r. ⌜ r ≡ fourMarked (now (marks .entry)) x ⌝ }

@@ -12,5 +12,6 @@ pub mod Filling
 pub mod Swaps
 pub mod Accepting
 pub mod Commands
+pub mod Putting
 pub mod OnlyTables
 pub mod Zeros

@@ -27,7 +27,10 @@ hypermapWords = 4
 abbrev pub wordsPerChange : ℕ
 wordsPerChange = 4
 
--- the greatest number that a word holds
+-- the bytes of a word, and the greatest number that it holds
+abbrev pub bytesPerWord : ℕ
+bytesPerWord = 2
+
 abbrev pub maxWord : ℕ
 maxWord = 65535
 

@@ -53,7 +53,7 @@ unfoldable pub readRefusal : (tape : List ℕ) → ℕ
 readRefusal bs =
     orElse (unless (isCommand (byteOf bs)) unknownCommand) (unless (leb (sizeOf bs) (length bs)) tornCommand)
 
--- the tape behind the first command
+-- the tape after the first command
 abbrev pub restOf : (tape : List ℕ) → List ℕ
 restOf bs = drop (sizeOf bs) bs
 

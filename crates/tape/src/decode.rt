@@ -12,7 +12,7 @@ use table::Change;
 use table::refusals;
 use table::words::to_word;
 
-// A byte of the tape, 0 behind its end.
+// A byte of the tape, 0 past its end.
 fn byte_at(tape: &[u8], i: usize) -> u8
     ensures { λ r. ⌜ r ≡ getD (now (tape .entry)) i 0 ⌝ }
 {

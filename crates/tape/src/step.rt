@@ -14,7 +14,7 @@ use rings::cut;
 use table::changes;
 use table::limits::MAX_TAPE_RING;
 
-// A ring of n double-links, whose darts stand behind the count on the tape.
+// A ring of n double-links, whose darts stand after the count on the tape.
 fn cut_tape_ring(table: &mut [u16], tape: &[u8], n: u8) -> u8
     requires { ⌜ WithinCapacity (now table) ⌝ }
     ensures { λ r. ⌜ r ≡ ringRefusal (now (table .entry)) (numbersFrom (2 * n) 2 (now (tape .entry))) ⌝ }

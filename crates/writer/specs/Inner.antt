@@ -24,7 +24,7 @@ written at (b ∷ bs) o = written (at + 1) bs (set o at b)
 pub record HasRoom (at : ℕ) (bytes out : List ℕ) : Type 0 where
   pub room : at + length bytes ≤ length out
 
--- bytes laid over a buffer, and the place behind them
+-- bytes laid over a buffer, and the place after them
 pub record Lays (at : ℕ) (bytes before after : List ℕ) (end : ℕ) : Type 0 where
   pub laid : after ≡ written at bytes before
   pub place : end ≡ at + length bytes

@@ -23,7 +23,7 @@ fn complement_of(x: i32) -> u32
     }
 }
 
-// Answers the place behind the number.
+// Answers the place after the number.
 fn write_four(out: &mut [u8], at: usize, x: u32) -> usize
     requires { ⌜ HasRoom at (fourBytes x) (now out) ⌝ }
     ensures { λ r. ⌜ Lays at (fourBytes x) (now (out .entry)) (now (out .exit)) r ⌝ }

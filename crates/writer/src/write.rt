@@ -23,7 +23,7 @@ use table::walk;
 use table::words;
 use tape::operands;
 
-// COMMANDS into a buffer, from a place on; each answers the place behind it.
+// COMMANDS into a buffer, from a place on; each answers the place after it.
 
 fn write_number(out: &mut [u8], at: usize, x: u16) -> usize
     requires { ⌜ HasRoom at (numberBytes x) (now out) ⌝ }

@@ -5,7 +5,7 @@ use native.Mathlib.Omega.{arith}
 use borrow.Author.Tests.{eq-eqb, ne-eqb}
 use Rattle.table.specs.Limits.{wordsPerDart}
 use Rattle.table.proofs.Holding.{low, high}
-use Rattle.kernel.specs.Calls.{lookOf}
+use Rattle.kernel.specs.Calls.{lookOf, lookPlace}
 use Rattle.kernel.proofs.Judging.{dartsReady}
 use Rattle.kernel.proofs.look.Statement.{statement}
 use Rattle.kernel.proofs.look.Tie as tie
@@ -24,17 +24,20 @@ part-result-end c =
     omega arith
 
 returns : tie.Need-returns
-unfolding lookOf
+unfolding lookOf lookPlace
 returns c =
     let t = c .before .before in
     let k = c .before .place-of .result in
     let e : k + wordsPerDart - k ≡ wordsPerDart = omega arith in
-    rw (eq-eqb _ _ (sym (t .before .darts-question-refusal .ensures) ∙ t .if1 .taken), e) (cc)
+    let z = eq-eqb _ _ (sym (t .before .darts-question-refusal .ensures) ∙ t .if1 .taken) in
+    (rw (z, e) (cc), rw z (cc))
 
 returns-2 : tie.Need-returns-2
-unfolding lookOf
+unfolding lookOf lookPlace
 returns-2 c =
-    let t = c .before in rw (ne-eqb _ _ (λ e. t .if1 .left (t .before .darts-question-refusal .ensures ∙ e)))
+    let t = c .before in
+    let z = ne-eqb _ _ (λ e. t .if1 .left (t .before .darts-question-refusal .ensures ∙ e)) in
+    (rw z, rw z)
 
 pub look-spec : {M : Type 1} → statement M
 look-spec =

@@ -1,7 +1,7 @@
 use borrow.Author.Needs.{needs}
 use mathlib.Core.Path.{_∙_}
 use native.Mathlib.Omega.{arith}
-use Rattle.kernel.proofs.TapeNeeds.{needsLong, needsRead}
+use Rattle.kernel.proofs.Tapes.{needsLong, needsRead}
 use Rattle.kernel.proofs.tape_needs.Statement.{statement}
 use Rattle.kernel.proofs.tape_needs.Tie as tie
 

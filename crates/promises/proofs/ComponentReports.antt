@@ -19,12 +19,13 @@ use Rattle.parts.specs.Sharing.{isSame}
 use Rattle.parts.specs.declared.Part.the-variants.{Component}
 use Rattle.parts.proofs.Lifting.{liftsByDarts, liftsAddUp}
 use Rattle.soundness.specs.Soundness.{tableRefusal}
 use Rattle.kernel.specs.Calls.{reportOn, questionRefusal, componentReportOf}
-use Rattle.kernel.specs.ComponentReports.{IsOfOneComponent, sumOfReports, ReportsAddUp, ComponentPromise}
+use Rattle.promises.specs.ComponentReports.{IsOfOneComponent, sumOfReports, ReportsAddUp, ComponentPromise}
 use Rattle.kernel.specs.declared.Totals.{Totals}
 use Rattle.soundness.proofs.Passing.{tablePassed}
-use Rattle.kernel.proofs.Judging.{Reported, planReported, reportPassed, dartReady, questionFits}
-use Rattle.kernel.proofs.Judging.{questionTable, componentPassed, componentReported}
+use Rattle.kernel.proofs.Judging.{dartReady}
+use Rattle.promises.proofs.Accepted.{Reported, planReported, reportPassed, questionFits, questionTable}
+use Rattle.promises.proofs.Accepted.{componentPassed, componentReported}
 
 -- ONE
 module _ (w : Table) (x : ℕ) (z : questionRefusal w (x ∷ []) ≡ 0) where

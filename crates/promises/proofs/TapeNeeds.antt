@@ -25,23 +25,14 @@ use Rattle.needs.proofs.Capacities.{capacityLaw, acceptedCapacityLaw}
 use Rattle.needs.proofs.Peaks.{peakLaw, mostDartsLaw, noDarts}
 use Rattle.needs.proofs.ChangedWords.{wordsLaw}
 use Rattle.soundness.specs.Soundness.{tableRefusal}
-use Rattle.kernel.specs.Tapes.{tapeRefusal, playRefusal, playOutcome, emptyTable}
-use Rattle.kernel.specs.TapeNeeds.{needsAnswer, IsForetold, NeedsPromise}
+use Rattle.kernel.specs.Tapes.{tapeRefusal, playRefusal, playOutcome, needsAnswer, emptyTable}
+use Rattle.promises.specs.TapeNeeds.{IsForetold, NeedsPromise}
 use Rattle.soundness.proofs.Passing.{tablePassed}
-use Rattle.kernel.proofs.Tapes.{tapeLong, tapeShort}
-use Rattle.kernel.proofs.RefusalNumbers.{One, unlessOne, contentsOne, widen}
+use Rattle.kernel.proofs.Tapes.{needsLong, needsRead}
+use Rattle.promises.proofs.Accepted.{playRan}
+use Rattle.promises.proofs.RefusalNumbers.{One, unlessOne, contentsOne, widen}
 
 -- THE ANSWER
-pub needsLong : (bs : List ℕ) → maxTape < length bs → refusedNeeds wrongSize ≡ needsAnswer bs
-unfolding needsAnswer
-needsLong bs l =
-    let e = tapeLong bs l in
-    rw (ne-eqb (tapeRefusal bs) 0 (λ z. absurd (omega arith)), e) refl
-
-pub needsRead : (bs : List ℕ) → length bs ≤ maxTape → neededBy (contentsOf bs) ≡ needsAnswer bs
-unfolding needsAnswer
-needsRead bs l = rw (eq-eqb (tapeRefusal bs) 0 (tapeShort bs l))
-
 neededNumber : (t : Contents) → neededBy t .number ≡ t .refusal
 unfolding neededBy
 neededNumber t =
@@ -93,8 +84,7 @@ module _ (bs : List ℕ) where
         (λ f. rw f at e)
 
     ran : playOutcome w bs ≡ runOf w bs
-    unfolding playOutcome
-    ran = rw (eq-eqb (playRefusal w bs) 0 unjudged)
+    ran = playRan w bs unjudged
 
     stages : (tapeRefusal bs ≡ 0) × (tableRefusal w ≡ 0)
     unfolding playRefusal

@@ -25,13 +25,12 @@ use Rattle.table.specs.Laws.{IsSwapped}
 use Rattle.table.proofs.Holding.{memPresent, tableHypermap, dartsFew}
 use Rattle.table.proofs.Swaps.{swapLaw}
 use Rattle.soundness.specs.Soundness.{tableRefusal}
 use Rattle.kernel.specs.Calls.{reportOf}
-use Rattle.kernel.specs.Demands.{GenusReported, GenusDemand, JoinsFreely, JoinDemand, ThirdDemand}
+use Rattle.promises.specs.ThirdDemand.{GenusReported, GenusDemand, JoinsFreely, JoinDemand, ThirdDemand}
 use Rattle.soundness.proofs.Passing.{tablePassed, tableFits, sizeStays, holdsSound}
-use Rattle.kernel.proofs.Judging.{planReported, reportPassed, callPassed}
 use Rattle.table.proofs.Accepting.{Joined, joinPassed}
-use Rattle.kernel.proofs.Judging.{acceptedLeaves}
-use Rattle.kernel.proofs.RingDemand.{ringDemand, componentRingDemand}
+use Rattle.promises.proofs.RingDemand.{ringDemand, componentRingDemand}
+use Rattle.promises.proofs.Accepted.{planReported, reportPassed, callPassed, acceptedLeaves}
 
 -- THE GENUS
 module _ (w : Table) (t : tableRefusal w ≡ 0) where

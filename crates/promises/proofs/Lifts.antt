@@ -3,9 +3,9 @@
 use Rattle.table.specs.Layout.{hypermapOf}
 use Rattle.table.proofs.Holding.{tableHypermap}
 use Rattle.parts.proofs.Lifting.{liftsLaw}
-use Rattle.kernel.specs.Lifts.{LiftsPromise}
+use Rattle.promises.specs.Lifts.{LiftsPromise}
 use Rattle.soundness.proofs.Passing.{tablePassed}
-use Rattle.kernel.proofs.Judging.{planReported, reportPassed}
+use Rattle.promises.proofs.Accepted.{planReported, reportPassed}
 
 pub liftsPromise : LiftsPromise
 liftsPromise w e =

@@ -188,5 +188,5 @@ rows =
     []
 
 -- what holds of the public calls: every row
-abbrev pub PlansLaw : Type 0
-PlansLaw = allFit rows ≡ true
+abbrev pub PlansPromise : Type 0
+PlansPromise = allFit rows ≡ true

@@ -26,30 +26,19 @@ use Rattle.rings.specs.Laws.{IsCut, areDarts}
 use Rattle.rings.proofs.Conditions.{someLinks, conditionsLaw}
 use Rattle.rings.proofs.Parting.{acceptedDarts, acceptedCut, partingLaw, planarPartingLaw}
 use Rattle.soundness.specs.Soundness.{tableRefusal}
 use Rattle.kernel.specs.Calls.{totalsOf, reportOf, ringCallRefusal, ringCallLeaves, questionRefusal}
 use Rattle.kernel.specs.Calls.{componentReportOf}
-use Rattle.kernel.specs.Demands.{IsPartedByReports, ComponentRingDemand, IsRingCut, RingDemand}
+use Rattle.promises.specs.ThirdDemand.{IsPartedByReports, ComponentRingDemand, IsRingCut, RingDemand}
 use Rattle.kernel.proofs.Answering.{givenReport}
 use Rattle.soundness.proofs.Passing.{tablePassed, tableFits, sizeStays, holdsSound}
-use Rattle.kernel.proofs.Judging.{planReported, componentPassed}
-use Rattle.kernel.proofs.Judging.{componentReported, dartReady, questionFits}
+use Rattle.kernel.proofs.Judging.{dartReady}
+use Rattle.promises.proofs.Accepted.{ringPassed, ringLeaves, planReported, componentPassed, componentReported}
+use Rattle.promises.proofs.Accepted.{questionFits}
 
 -- the links of an accepted list
 someLink : (ls : List DoubleLink) → (ls ≡ [] → ⊥) → (l : DoubleLink) × (ks : List DoubleLink) × (ls ≡ l ∷ ks)
 someLink [] n = absurd (n refl)
 someLink (l ∷ ls) n = (l, ls, refl)
-
-pub ringPassed : (w : Table) (ws : List ℕ) → ringCallRefusal w ws ≡ 0 → (tableRefusal w ≡ 0) × (ringRefusal w ws ≡ 0)
-unfolding ringCallRefusal
-ringPassed w ws e = passed (tableRefusal w) (ringRefusal w ws) e
-
-pub ringFits : (w : Table) (ws : List ℕ) → tableRefusal w ≡ 0 → ringRefusal w ws ≡ 0 → ringCallRefusal w ws ≡ 0
-unfolding ringCallRefusal orElse
-ringFits w ws e f = rw (e, f)
-
-pub ringLeaves : (w : Table) (ws : List ℕ) → ringCallRefusal w ws ≡ 0 → ringCallLeaves w ws ≡ cutAlong (linksOf ws) w
-unfolding ringCallLeaves leaves
-ringLeaves w ws e = rw (eq-eqb (ringCallRefusal w ws) 0 e)
 
 module _ (w : Table) (ws : List ℕ) (e : ringCallRefusal w ws ≡ 0) where
   t : tableRefusal w ≡ 0

@@ -12,15 +12,15 @@ use Rattle.rings.specs.Rings.{linksOf, isList, pairsTogether, pathCloses, condi
 use Rattle.tape.specs.Tapes.{tapeBytes}
 use Rattle.writer.specs.Canonical.{orbitJoins, joinsOver, putsOf, tapeOf}
 use Rattle.soundness.specs.Soundness.{sizeFits, isSound, tableRefusal}
 use Rattle.kernel.specs.Calls.{callRefusal, callLeaves, ringCallRefusal, ringCallLeaves}
 use Rattle.kernel.specs.Calls.{reportOn}
 use Rattle.kernel.specs.Tapes.{emptyTable}
-use Rattle.kernel.specs.Plans.{PlansLaw, sameNumbers, facesFit, rowFits, allFit, rows}
+use Rattle.promises.specs.Plans.{PlansPromise, sameNumbers, facesFit, rowFits, allFit, rows}
 
-pub plansLaw : PlansLaw
+pub plansPromise : PlansPromise
 unfolding all among keep leastOf walkFrom spread spreadBy allLinks noTwo lastOf continuity orElse unless upFrom wordAt
     isPresent isAbsent wordsLinked dartFits holdsHypermap withWord withAll swapped presenceRefusal isTogether leaves
     markOf marksOf countsOf linksOf isList pairsTogether pathCloses conditionRefusal ringRefusal cutAlong tapeBytes
     orbitJoins joinsOver putsOf tapeOf sizeFits isSound tableRefusal callRefusal callLeaves ringCallRefusal
     ringCallLeaves reportOn emptyTable sameNumbers facesFit rowFits allFit rows
-plansLaw = refl
+plansPromise = refl

@@ -24,15 +24,15 @@ use Rattle.tape.specs.Tapes.{contentsOf}
 use Rattle.tape.specs.Runs.{stopped}
 use Rattle.tape.specs.Laws.{IsRun}
 use Rattle.tape.proofs.Running.{runLaw}
 use Rattle.kernel.specs.Calls.{callRefusal, callLeaves, ringCallRefusal, ringCallLeaves, reportOn}
 use Rattle.kernel.specs.Calls.{questionRefusal, answer, sameAnswer, listRefusal, listLeaves}
 use Rattle.kernel.specs.Calls.{listAnswer, lookOf}
 use Rattle.kernel.specs.Tapes.{tapeRefusal, playRefusal, playOutcome, screenRefusal, screenLeaves}
-use Rattle.kernel.specs.Demands.{Refuses, RefusesAnswer, RefusesReport, FirstDemand}
-use Rattle.kernel.proofs.Answering.{answerNumber}
+use Rattle.promises.specs.FirstDemand.{Refuses, RefusesAnswer, RefusesReport, FirstDemand}
 use Rattle.kernel.proofs.Judging.{dartsReady}
-use Rattle.kernel.proofs.RefusalNumbers.{One, unlessOne, orElseOne, tableOne, presenceOne, commandOne}
-use Rattle.kernel.proofs.RefusalNumbers.{ringOne, playOne, runOne}
+use Rattle.promises.proofs.RefusalNumbers.{One, unlessOne, orElseOne, tableOne, presenceOne, commandOne}
+use Rattle.promises.proofs.RefusalNumbers.{ringOne, playOne, runOne}
+use Rattle.promises.proofs.Accepted.{playRan, answerNumber}
 
 -- WHAT A REFUSED CALL LEAVES AND ANSWERS
 refuses : (n : ℕ) {ns : List ℕ} (v w : Table) → One n ns → Refuses n ns w (leaves n v w)
@@ -86,7 +86,7 @@ played :
 unfolding playOutcome
 played w tape = (
   λ z. rw (ne-eqb (playRefusal w tape) 0 z),
-  λ e. rw (eq-eqb (playRefusal w tape) 0 e) (runLaw w (contentsOf tape .commands) (contentsOf tape .refusal)),
+  λ e. rw (playRan w tape e) (runLaw w (contentsOf tape .commands) (contentsOf tape .refusal)),
 )
 
 -- DEMAND 1, whole

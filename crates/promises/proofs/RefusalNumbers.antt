@@ -17,10 +17,10 @@ use Rattle.tape.specs.Steps.{TapeCommand, changes, reports, cutsRing, stepRefus
 use Rattle.tape.specs.Tapes.{readRefusal, restOf, contentsBy}
 use Rattle.tape.specs.Runs.{runOver}
 use Rattle.soundness.specs.Soundness.{tableRefusal}
 use Rattle.kernel.specs.Calls.{callRefusal, ringCallRefusal}
 use Rattle.kernel.specs.Tapes.{tapeRefusal, playRefusal, playOutcome}
-use Rattle.kernel.specs.Demands.{OneOf, tableRefusals, commandRefusals, ringRefusals}
-use Rattle.kernel.specs.Demands.{runRefusals}
+use Rattle.promises.specs.FirstDemand.{OneOf, tableRefusals, commandRefusals, ringRefusals}
+use Rattle.promises.specs.FirstDemand.{runRefusals}
 
 -- ONE NUMBER: a record, for from its type the numbers are known at each stage
 pub record One (n : ℕ) (ns : List ℕ) : Type 0 where

@@ -1,24 +1,17 @@
--- What the call for a tape's needs answers, and what it promises. Document 02, Job 1. Assumes nothing.
+-- What the call for a tape's needs promises. Document 02, Job 1. Assumes nothing.
 use mathlib.Core.Path.{_≡_}
 use mathlib.Core.Logic.{_↔_}
-use mathlib.Core.Bool.{cond}
 use mathlib.Core.List.{List, [], _∷_}
 use Prim.Native.Nat.{ℕ, _≤_, _<_}
-use lib.Dec.{eqb}
 use lib.ListN.{length}
 use Rattle.table.specs.Refusals.{wrongSize, unknownCommand, tornCommand}
 use Rattle.table.specs.Layout.{Table, capacity}
 use Rattle.tape.specs.Tapes.{contentsOf}
-use Rattle.needs.specs.Amounts.{refusedNeeds, neededBy}
+use Rattle.needs.specs.Amounts.{refusedNeeds}
 use Rattle.needs.specs.Laws.{NoneOff, IsPeak, mostDarts, changedOn}
-use Rattle.needs.specs.declared.Needs.{Needs}
 use Rattle.table.specs.Limits.{maxTape}
-use Rattle.kernel.specs.Tapes.{tapeRefusal, playOutcome, emptyTable}
-use Rattle.kernel.specs.Demands.{OneOf}
-
--- 1 for the tape, then the first 15 or 16
-unfoldable pub needsAnswer : (tape : List ℕ) → Needs
-needsAnswer bs = cond (eqb (tapeRefusal bs) 0) (neededBy (contentsOf bs)) (refusedNeeds (tapeRefusal bs))
+use Rattle.kernel.specs.Tapes.{playOutcome, emptyTable, needsAnswer}
+use Rattle.promises.specs.FirstDemand.{OneOf}
 
 -- "If a run from empty accepts every command, the most tabs present at any moment and the words changed, counted
 -- command by command and crossing by crossing, equal these"

@@ -10,11 +10,11 @@ use Rattle.table.specs.Inner.{kindOf}
 use Rattle.table.specs.declared.Orbit.{Orbit}
 use Rattle.table.proofs.Walking.{lengthLaw}
 use Rattle.table.specs.Limits.{maxCapacity}
 use Rattle.kernel.specs.Calls.{questionRefusal, roundOf}
-use Rattle.kernel.specs.Rounds.{RoundPromise}
-use Rattle.kernel.proofs.Answering.{listPassed, listRoom}
+use Rattle.promises.specs.Rounds.{RoundPromise}
 use Rattle.kernel.proofs.Judging.{dartReady}
-use Rattle.kernel.proofs.SecondDemand.{secondDemand}
+use Rattle.promises.proofs.Questions.{round}
+use Rattle.promises.proofs.Accepted.{listPassed, listRoom}
 
 inCapacity :
     (w : Table) (o : Orbit) (x : ℕ) → questionRefusal w (x ∷ []) ≡ 0 →
@@ -26,7 +26,7 @@ inCapacity w o x z =
 pub roundPromise : RoundPromise
 roundPromise = record {
   most = λ w o x out e.
-      rw (secondDemand .round w o x out e .count) (inCapacity w o x (listPassed _ (roundOf w o x) out e .0));
+      rw (round w o x out e .count) (inCapacity w o x (listPassed _ (roundOf w o x) out e .0));
   room = λ w o x out h.
       listRoom (questionRefusal w (x ∷ [])) (roundOf w o x) out (λ z. omega (arith, inCapacity w o x z .0));
 }

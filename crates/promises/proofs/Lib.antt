@@ -1,0 +1,15 @@
+pub mod Accepted
+pub mod RefusalNumbers
+pub mod FirstDemand
+pub mod Changes
+pub mod Questions
+pub mod Tapes
+pub mod SecondDemand
+pub mod RingDemand
+pub mod ThirdDemand
+pub mod Plans
+pub mod TapeNeeds
+pub mod Lifts
+pub mod Rounds
+pub mod ComponentReports
+pub mod Promises

@@ -1,0 +1,9 @@
+pub mod FirstDemand
+pub mod SecondDemand
+pub mod ThirdDemand
+pub mod Plans
+pub mod TapeNeeds
+pub mod Lifts
+pub mod Rounds
+pub mod ComponentReports
+pub mod Promises
