@@ -1,6 +1,6 @@
--- The second demand for changes: when a put, a take-out, a join, a cut or a ring is accepted, what it leaves, and that a
--- sound table stays sound. A call that is not refused has a sound table and darts of it, to which the laws of tables and
--- rings apply. Assumes nothing.
+-- The second demand for changes: when a put, a take-out, a join, a cut or a ring is accepted, what it leaves, and that
+-- a sound table stays sound. A call that is not refused has a sound table and darts of it, to which the laws of tables
+-- and rings apply. Assumes nothing.
 use mathlib.Core.Path.{_≡_, refl, sym, _∙_}
 use mathlib.Core.Bool.{true}
 use mathlib.Core.List.{List}
