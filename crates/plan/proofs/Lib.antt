@@ -1,1 +1,5 @@
-pub mod Replying
+pub mod Copying
+pub mod Numerals
+pub mod Rooms
+pub mod Lines
+pub mod Stretching

@@ -1,92 +1,99 @@
-// Lines of text in a buffer, which goes out when it is nearly full and at the end. A byte for which there is no room is
-// left out, so no function here requires any: flush_if_full leaves room for the longest line.
-use libc::STDOUT_FILENO;
+// Lines of text in a buffer. Each function writes from a place on and answers the place after what it wrote.
+ghost use mathlib.Core.List.{[], _∷_, _++_};
+ghost use Rattle.writer.specs.Inner.{HasRoom, Lays};
+ghost use Rattle.plan.specs.Lines.{decimal, signed, okLine, next, reportLine, refusedLine};
 use parts::Counts;
 use parts::sign::magnitude;
 
-// How full a buffer is allowed to be before the next line, and its bytes, with room for the longest line.
-const FULL: usize = 65000;
-
-pub const OUT_BYTES: usize = 65200;
-
-fn write_byte(out: &mut [u8], at: usize, byte: u8) -> usize {
-    if at < out.len() {
-        out[at] = byte;
-        at + 1
-    } else {
-        at
-    }
-}
-
-fn write_bytes(out: &mut [u8], from: usize, bytes: &[u8]) -> usize {
+fn write_bytes(out: &mut [u8], from: usize, bytes: &[u8]) -> usize
+    requires { ⌜ HasRoom from (now bytes) (now out) ⌝ }
+    ensures { λ r. ⌜ Lays from (now (bytes .entry)) (now (out .entry)) (now (out .exit)) r ⌝ }
+{
     let mut at = from;
     let mut i = 0;
     while i < bytes.len() {
-        at = write_byte(out, at, bytes[i]);
+        out[at] = bytes[i];
+        at += 1;
         i += 1;
     }
     at
 }
 
-fn write_number(out: &mut [u8], at: usize, n: u64) -> usize {
+fn write_number(out: &mut [u8], at: usize, n: u32) -> usize
+    requires { ⌜ HasRoom at (decimal n) (now out) ⌝ }
+    ensures { λ r. ⌜ Lays at (decimal n) (now (out .entry)) (now (out .exit)) r ⌝ }
+{
     let mut digits = [0u8; 20];
-    let k = io::decimal(n, &mut digits);
+    let k = io::decimal(n as u64, &mut digits);
     write_bytes(out, at, &digits[..k])
 }
 
+fn write_byte(out: &mut [u8], at: usize, byte: u8) -> usize
+    requires { ⌜ HasRoom at (byte ∷ []) (now out) ⌝ }
+    ensures { λ r. ⌜ Lays at (byte ∷ []) (now (out .entry)) (now (out .exit)) r ⌝ }
+{
+    out[at] = byte;
+    at + 1
+}
+
 // A space, and a number that is not negative.
-fn write_next(out: &mut [u8], at: usize, n: u32) -> usize {
-    let next = write_byte(out, at, b' ');
-    write_number(out, next, n as u64)
+fn write_next(out: &mut [u8], from: usize, n: u32) -> usize
+    requires { ⌜ HasRoom from (next n) (now out) ⌝ }
+    ensures { λ r. ⌜ Lays from (next n) (now (out .entry)) (now (out .exit)) r ⌝ }
+{
+    let at = write_byte(out, from, b' ');
+    write_number(out, at, n)
 }
 
-// A space, and a number with a minus in front where it is negative.
-fn write_signed(out: &mut [u8], at: usize, n: i32) -> usize {
-    if n < 0 {
-        let next = write_bytes(out, at, b" -");
-        write_number(out, next, magnitude(n) as u64)
+// Two of these.
+fn write_two(out: &mut [u8], from: usize, n: u32, m: u32) -> usize
+    requires { ⌜ HasRoom from (next n ++ next m) (now out) ⌝ }
+    ensures { λ r. ⌜ Lays from (next n ++ next m) (now (out .entry)) (now (out .exit)) r ⌝ }
+{
+    let at = write_next(out, from, n);
+    write_next(out, at, m)
+}
+
+// A number with a minus in front where it is negative.
+fn write_signed(out: &mut [u8], from: usize, n: i32) -> usize
+    requires { ⌜ HasRoom from (signed n) (now out) ⌝ }
+    ensures { λ r. ⌜ Lays from (signed n) (now (out .entry)) (now (out .exit)) r ⌝ }
+{
+    if 0 <= n {
+        write_number(out, from, magnitude(n))
     } else {
-        write_next(out, at, magnitude(n))
+        let at = write_byte(out, from, b'-');
+        write_number(out, at, magnitude(n))
     }
 }
 
-pub fn flush(out: &[u8], at: usize) {
-    if at <= out.len() {
-        io::write_all(STDOUT_FILENO, &out[..at]);
-    }
-}
-
-// Answers where the next line begins.
-pub fn flush_if_full(out: &[u8], at: usize) -> usize {
-    if FULL < at {
-        flush(out, at);
-        0
-    } else {
-        at
-    }
-}
-
-pub fn write_ok(out: &mut [u8], at: usize) -> usize {
+pub fn write_ok(out: &mut [u8], at: usize) -> usize
+    requires { ⌜ HasRoom at okLine (now out) ⌝ }
+    ensures { λ r. ⌜ Lays at okLine (now (out .entry)) (now (out .exit)) r ⌝ }
+{
     write_bytes(out, at, b"ok\n")
 }
 
 // The numbers in document 01's order.
-pub fn write_report(out: &mut [u8], from: usize, c: Counts) -> usize {
-    let mut at = write_number(out, from, c.darts as u64);
-    at = write_next(out, at, c.edges);
-    at = write_next(out, at, c.vertices);
-    at = write_next(out, at, c.faces);
-    at = write_next(out, at, c.components);
-    at = write_signed(out, at, c.characteristic);
-    at = write_next(out, at, c.genus);
-    at = write_next(out, at, c.lifts);
-    write_byte(out, at, b'\n')
+pub fn write_report(out: &mut [u8], from: usize, c: Counts) -> usize
+    requires { ⌜ HasRoom from (reportLine c) (now out) ⌝ }
+    ensures { λ r. ⌜ Lays from (reportLine c) (now (out .entry)) (now (out .exit)) r ⌝ }
+{
+    let darts = write_number(out, from, c.darts);
+    let vertices = write_two(out, darts, c.edges, c.vertices);
+    let components = write_two(out, vertices, c.faces, c.components);
+    let space = write_byte(out, components, b' ');
+    let characteristic = write_signed(out, space, c.characteristic);
+    let lifts = write_two(out, characteristic, c.genus, c.lifts);
+    write_byte(out, lifts, b'\n')
 }
 
-// The last line.
-pub fn end_refused(out: &mut [u8], at: usize, refusal: u8) {
-    let mut end = write_bytes(out, at, b"refused ");
-    end = write_number(out, end, refusal as u64);
-    end = write_byte(out, end, b'\n');
-    flush(out, end);
+// The last line of a run that is refused.
+pub fn write_refused(out: &mut [u8], from: usize, refusal: u8) -> usize
+    requires { ⌜ HasRoom from (refusedLine refusal) (now out) ⌝ }
+    ensures { λ r. ⌜ Lays from (refusedLine refusal) (now (out .entry)) (now (out .exit)) r ⌝ }
+{
+    let word = write_bytes(out, from, b"refused ");
+    let number = write_number(out, word, refusal as u32);
+    write_byte(out, number, b'\n')
 }

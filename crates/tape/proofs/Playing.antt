@@ -25,27 +25,27 @@ abbrev runThrough : Table → Contents → Outcome
 runThrough w t = runOver w (t .commands) (t .refusal)
 
 module _ (w : Table) (bs : List ℕ) where
-  runNone : length bs ≡ 0 → runOf w bs ≡ stopped 0 w
+  pub runNone : length bs ≡ 0 → runOf w bs ≡ stopped 0 w
   unfolding runOver
   runNone e = ap (runThrough w) (readingLaw bs .none e)
 
   module _ (some : 0 < length bs) where
-    runRefused : (readRefusal bs ≡ 0 → ⊥) → runOf w bs ≡ stopped (readRefusal bs) w
+    pub runRefused : (readRefusal bs ≡ 0 → ⊥) → runOf w bs ≡ stopped (readRefusal bs) w
     unfolding runOver
     runRefused d = ap (runThrough w) (readingLaw bs .refused some d)
 
     module _ (e : readRefusal bs ≡ 0) where
-      runStopped : (stepRefusal w (commandOf bs) ≡ 0 → ⊥) → runOf w bs ≡ stopped (stepRefusal w (commandOf bs)) w
+      pub runStopped : (stepRefusal w (commandOf bs) ≡ 0 → ⊥) → runOf w bs ≡ stopped (stepRefusal w (commandOf bs)) w
       unfolding runOver
       runStopped d = ap (runThrough w) (readingLaw bs .read some e) ∙ rw (ne-eqb (stepRefusal w (commandOf bs)) 0 d)
 
-      runOn : stepRefusal w (commandOf bs) ≡ 0 → runOf w bs ≡ oneMore (runOf (stepOn w (commandOf bs)) (restOf bs))
+      pub runOn : stepRefusal w (commandOf bs) ≡ 0 → runOf w bs ≡ oneMore (runOf (stepOn w (commandOf bs)) (restOf bs))
       unfolding runOver
       runOn z = ap (runThrough w) (readingLaw bs .read some e) ∙ rw (eq-eqb (stepRefusal w (commandOf bs)) 0 z)
 
 -- A COMMAND READ WHOLE lies on the tape, and has a byte
 module _ (bs : List ℕ) (r : Reading) (a : Reads bs r) (i : Instruction) (n : ℕ) (b : r ≡ Whole i n) where
-  wholeRead : Reads bs (Whole i n)
+  pub wholeRead : Reads bs (Whole i n)
   wholeRead = rw b at a
 
   pub wholeFits : n ≤ length bs

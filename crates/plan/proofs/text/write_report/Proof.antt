@@ -1,36 +1,110 @@
-use mathlib.Core.Path.{_∙_}
 use borrow.Author.Needs.{needs}
+use mir.Facts.{toZ-ofZ}
+use mir.Syntax.{w32}
+use Rattle.writer.proofs.Laying.{laysThen, roomFirst, roomThen}
+use Rattle.plan.specs.Lines.{reportLine}
 use Rattle.plan.proofs.text.write_report.Statement.{statement}
 use Rattle.plan.proofs.text.write_report.Tie as tie
 
-same-length : tie.Need-same-length
-same-length c =
-    let end = c .before .before in
-    let n₆ = end .before .before .before .before in
-    let n₅ = n₆ .before .before .before .before in
-    let signed = n₅ .before .before .before .before in
-    let n₄ = signed .before .before .before .before .before in
-    let n₃ = n₄ .before .before .before .before in
-    let n₂ = n₃ .before .before .before .before in
-    let n₁ = n₂ .before .before .before .before in
-    let first = n₁ .before .before .before .before in
-    end .write-byte .kept .0 ∙ n₆ .write-next6 .kept .0 ∙ n₅ .write-next5 .kept .0 ∙ signed .write-signed .kept .0 ∙
-    n₄ .write-next4 .kept .0 ∙ n₃ .write-next3 .kept .0 ∙ n₂ .write-next2 .kept .0 ∙ n₁ .write-next .kept .0 ∙
-    first .write-number .kept .0
+write-number-requires : tie.Need-write-number-requires
+unfolding reportLine
+write-number-requires c κs =
+    roomFirst _ _ (roomFirst _ _ (roomFirst _ _ (roomFirst _ _ (roomFirst _ _ (roomFirst _ _ (c .before .before .pre))))))
+
+write-two-requires : tie.Need-write-two-requires
+unfolding reportLine
+write-two-requires c κs =
+    let a = c .before .before .before in
+    let s = a .before .before .before in
+    roomThen (roomFirst _ _ (roomFirst _ _ (roomFirst _ _ (roomFirst _ _ (roomFirst _ _ (s .pre))))))
+    (a .write-number .ensures)
+
+write-two-requires-2 : tie.Need-write-two-requires-2
+unfolding reportLine
+write-two-requires-2 c κs =
+    let b = c .before .before .before in
+    let a = b .before .before .before .before in
+    let s = a .before .before .before in
+    roomThen (roomFirst _ _ (roomFirst _ _ (roomFirst _ _ (roomFirst _ _ (s .pre)))))
+    (laysThen (a .write-number .ensures) (b .write-two .ensures))
+
+write-byte-requires : tie.Need-write-byte-requires
+unfolding reportLine
+write-byte-requires c κs =
+    let d = c .before .before .before in
+    let b = d .before .before .before .before in
+    let a = b .before .before .before .before in
+    let s = a .before .before .before in
+    roomThen (roomFirst _ _ (roomFirst _ _ (roomFirst _ _ (s .pre))))
+    (laysThen (laysThen (a .write-number .ensures) (b .write-two .ensures)) (d .write-two2 .ensures))
+
+write-signed-requires : tie.Need-write-signed-requires
+unfolding reportLine
+write-signed-requires c κs =
+    let e = c .before .before .before .before in
+    let d = e .before .before .before .before in
+    let b = d .before .before .before .before in
+    let a = b .before .before .before .before in
+    let s = a .before .before .before in
+    let z = toZ-ofZ {w = w32} {z = s .args .c .characteristic}
+    (record { sfits = c .struct-told .given .1 .1 .1 .1 .1 .0 .1 }) in
+    rw z (roomThen (roomFirst _ _ (roomFirst _ _ (s .pre)))
+    (laysThen (laysThen (laysThen (a .write-number .ensures) (b .write-two .ensures)) (d .write-two2 .ensures)) (e .write-byte .ensures)))
+
+write-two-requires-3 : tie.Need-write-two-requires-3
+unfolding reportLine
+write-two-requires-3 c κs =
+    let f = c .before .before .before in
+    let e = f .before .before .before .before .before in
+    let d = e .before .before .before .before in
+    let b = d .before .before .before .before in
+    let a = b .before .before .before .before in
+    let s = a .before .before .before in
+    let z = toZ-ofZ {w = w32} {z = s .args .c .characteristic}
+    (record { sfits = f .before .struct-told .given .1 .1 .1 .1 .1 .0 .1 }) in
+    roomThen (roomFirst _ _ (s .pre))
+    (laysThen (laysThen (laysThen (laysThen (a .write-number .ensures) (b .write-two .ensures)) (d .write-two2 .ensures)) (e .write-byte .ensures)) (rw z at (f .write-signed .ensures)))
+
+write-byte-requires-2 : tie.Need-write-byte-requires-2
+unfolding reportLine
+write-byte-requires-2 c κs =
+    let g = c .before .before .before in
+    let f = g .before .before .before .before in
+    let e = f .before .before .before .before .before in
+    let d = e .before .before .before .before in
+    let b = d .before .before .before .before in
+    let a = b .before .before .before .before in
+    let s = a .before .before .before in
+    let z = toZ-ofZ {w = w32} {z = s .args .c .characteristic}
+    (record { sfits = f .before .struct-told .given .1 .1 .1 .1 .1 .0 .1 }) in
+    roomThen (s .pre)
+    (laysThen (laysThen (laysThen (laysThen (laysThen (a .write-number .ensures) (b .write-two .ensures)) (d .write-two2 .ensures)) (e .write-byte .ensures)) (rw z at (f .write-signed .ensures))) (g .write-two3 .ensures))
+
+returns : tie.Need-returns
+unfolding reportLine
+returns c =
+    let h = c .before .before in
+    let g = h .before .before .before .before in
+    let f = g .before .before .before .before in
+    let e = f .before .before .before .before .before in
+    let d = e .before .before .before .before in
+    let b = d .before .before .before .before in
+    let a = b .before .before .before .before in
+    let s = a .before .before .before in
+    let z = toZ-ofZ {w = w32} {z = s .args .c .characteristic}
+    (record { sfits = f .before .struct-told .given .1 .1 .1 .1 .1 .0 .1 }) in
+    laysThen (laysThen (laysThen (laysThen (laysThen (laysThen (a .write-number .ensures) (b .write-two .ensures)) (d .write-two2 .ensures)) (e .write-byte .ensures)) (rw z at (f .write-signed .ensures))) (g .write-two3 .ensures)) (h .write-byte2 .ensures)
 
 pub write-report-spec : {M : Type 1} → statement M
 write-report-spec =
     tie.close
     (tie.spec
+    write-number-requires
+    write-two-requires
+    write-two-requires-2
+    write-byte-requires
+    write-signed-requires
+    write-two-requires-3
+    write-byte-requires-2
     (λ c. search needs)
-    (λ c κs. search needs)
-    (λ c κs. search needs)
-    (λ c κs. search needs)
-    (λ c κs. search needs)
-    (λ c κs. search needs)
-    (λ c κs. search needs)
-    (λ c κs. search needs)
-    (λ c κs. search needs)
-    (λ c κs. search needs)
-    same-length
-    (λ c. search needs))
+    returns)
