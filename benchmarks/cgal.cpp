@@ -29,7 +29,7 @@ namespace {
 using Map = CGAL::Combinatorial_map<2>;
 using Dart = Map::Dart_handle;
 using Clock = std::chrono::steady_clock;
-using Darts = std::vector<Dart>; /* by tab; 0 is no tab */
+using Darts = std::vector<Dart>; /* by number; 0 is no dart */
 
 constexpr int PLANS = 64;   /* in rotation */
 constexpr int ROUNDS = 192; /* for one median */
@@ -45,35 +45,36 @@ void require(bool so, const char *what) {
 /* PLANS */
 
 struct Plan {
-    std::vector<uint16_t> edge, vertex; /* successors by tab; 0 is no tab */
-    std::vector<uint16_t> ring;         /* first and second tab of each crossing */
+    std::vector<uint16_t> edge, vertex; /* successors by number; 0 is no dart */
+    std::vector<uint16_t> ring;         /* first and second dart of each double-link */
     std::vector<uint8_t> tape;
 
-    int tabs() const { return static_cast<int>(edge.size()) - 1; }
+    int darts() const { return static_cast<int>(edge.size()) - 1; }
 
     std::vector<uint16_t> table(int capacity) const {
-        std::vector<uint16_t> words(4 * capacity);
-        for (int t = 1; t <= tabs(); t++) {
-            words[4 * (t - 1)] = edge[t];
-            words[4 * (edge[t] - 1) + 1] = static_cast<uint16_t>(t);
-            words[4 * (t - 1) + 2] = vertex[t];
-            words[4 * (vertex[t] - 1) + 3] = static_cast<uint16_t>(t);
+        std::vector<uint16_t> words(LOTSKADI_WORDS_PER_DART * capacity);
+        const auto at = [&](int x) { return words.data() + LOTSKADI_WORDS_PER_DART * (x - 1); };
+        for (int x = 1; x <= darts(); x++) {
+            at(x)[0] = edge[x];
+            at(edge[x])[1] = static_cast<uint16_t>(x);
+            at(x)[2] = vertex[x];
+            at(vertex[x])[3] = static_cast<uint16_t>(x);
         }
         return words;
     }
 };
 
-/* A grid of cells, tied to their neighbours by ties of two tabs, with its tabs numbered row by row. */
+/* A grid of vertices, with edges of two darts to their neighbours, and its darts numbered row by row. */
 class Grid {
   public:
     Grid(int width, int height) : width(width), height(height) {
         plan.edge.push_back(0);
         for (int at = 0; at < width * height; at++) {
-            if (at % width + 1 < width) tie(at, at + 1);
-            if (at / width + 1 < height) tie(at, at + width);
+            if (at % width + 1 < width) add_edge(at, at + 1);
+            if (at / width + 1 < height) add_edge(at, at + width);
         }
         plan.vertex.resize(plan.edge.size());
-        for (int at = 0; at < width * height; at++) close_cell(at);
+        for (int at = 0; at < width * height; at++) close_vertex(at);
         plan.ring = ring();
     }
 
@@ -81,20 +82,20 @@ class Grid {
 
   private:
     int width, height;
-    std::map<std::pair<int, int>, uint16_t> tab; /* at a cell, of the tie to a neighbour */
+    std::map<std::pair<int, int>, uint16_t> dart; /* at a vertex, of the edge to a neighbour */
 
-    void tie(int from, int to) {
+    void add_edge(int from, int to) {
         const auto a = static_cast<uint16_t>(plan.edge.size()), b = static_cast<uint16_t>(a + 1);
-        tab[{from, to}] = a;
-        tab[{to, from}] = b;
+        dart[{from, to}] = a;
+        dart[{to, from}] = b;
         plan.edge.insert(plan.edge.end(), {b, a});
     }
 
-    void close_cell(int at) {
+    void close_vertex(int at) {
         std::vector<uint16_t> around;
         for (int to : {at + 1, at + width, at - 1, at - width}) {
-            const auto found = tab.find({at, to});
-            if (found != tab.end()) around.push_back(found->second);
+            const auto found = dart.find({at, to});
+            if (found != dart.end()) around.push_back(found->second);
         }
         for (size_t i = 0; i < around.size(); i++) plan.vertex[around[i]] = around[(i + 1) % around.size()];
     }
@@ -109,8 +110,8 @@ class Grid {
         for (int y = bottom; y >= top; y--) out.push_back({y * width + left, y * width + left - 1});
         std::vector<uint16_t> words;
         for (const auto &[inside, outside] : out) {
-            words.push_back(tab.at({outside, inside}));
-            words.push_back(tab.at({inside, outside}));
+            words.push_back(dart.at({outside, inside}));
+            words.push_back(dart.at({inside, outside}));
         }
         return words;
     }
@@ -121,11 +122,11 @@ Plan renamed(const Plan &plan, const std::vector<uint16_t> &name) {
     Plan other;
     other.edge.resize(plan.edge.size());
     other.vertex.resize(plan.vertex.size());
-    for (int t = 1; t <= plan.tabs(); t++) {
-        other.edge[name[t]] = name[plan.edge[t]];
-        other.vertex[name[t]] = name[plan.vertex[t]];
+    for (int x = 1; x <= plan.darts(); x++) {
+        other.edge[name[x]] = name[plan.edge[x]];
+        other.vertex[name[x]] = name[plan.vertex[x]];
     }
-    for (uint16_t t : plan.ring) other.ring.push_back(name[t]);
+    for (uint16_t x : plan.ring) other.ring.push_back(name[x]);
     return other;
 }
 
@@ -139,7 +140,7 @@ Plan with_tape(Plan plan, int capacity) {
     return plan;
 }
 
-/* As many tabs as fit, in a grid of about the given width. */
+/* As many darts as fit, in a grid of about the given width. */
 Grid fitting(int width, int capacity) {
     int height = 4;
     while (2 * (width * height + (height + 1) * (width - 1)) <= capacity) height++;
@@ -198,7 +199,7 @@ class Stopwatch {
 Counts counted(const std::vector<uint16_t> &table) {
     const lotskadi_totals totals = lotskadi_report(table.data(), table.size());
     require(totals.number == 0, "a report");
-    return {totals.tabs, totals.ties, totals.cells, totals.gaps, totals.pieces};
+    return {totals.darts, totals.edges, totals.vertices, totals.faces, totals.components};
 }
 
 Outcome by_kernel(const Plan &plan, std::vector<uint16_t> &table) {
@@ -220,10 +221,10 @@ Outcome by_kernel(const Plan &plan, std::vector<uint16_t> &table) {
 /* CGAL */
 
 void build(Map &map, const Plan &plan, Darts &dart) {
-    for (int t = 1; t <= plan.tabs(); t++) dart[t] = map.create_dart();
-    for (int t = 1; t <= plan.tabs(); t++) map.link_beta<1>(dart[t], dart[plan.vertex[t]]);
-    for (int t = 1; t <= plan.tabs(); t++)
-        if (t < plan.edge[t]) map.link_beta<2>(dart[t], dart[plan.edge[t]]);
+    for (int x = 1; x <= plan.darts(); x++) dart[x] = map.create_dart();
+    for (int x = 1; x <= plan.darts(); x++) map.link_beta<1>(dart[x], dart[plan.vertex[x]]);
+    for (int x = 1; x <= plan.darts(); x++)
+        if (x < plan.edge[x]) map.link_beta<2>(dart[x], dart[plan.edge[x]]);
 }
 
 Dart edge_next(const Map &map, Dart x) { return map.is_free<2>(x) ? x : const_cast<Map &>(map).beta<2>(x); }
@@ -315,7 +316,7 @@ bool goes_round(const Map &map, const std::vector<uint16_t> &ring, const Darts &
 bool cut_ring(Map &map, const std::vector<uint16_t> &ring, const Darts &dart) {
     const Map::size_type edges = map.get_new_mark(), faces = map.get_new_mark();
     const bool fits = crosses_edges(map, ring, dart, edges) && goes_round(map, ring, dart, faces);
-    for (uint16_t t : ring) map.unmark(dart[t], edges);
+    for (uint16_t x : ring) map.unmark(dart[x], edges);
     for (size_t k = 0; k < ring.size(); k += 2) {
         Dart at = dart[ring[k]];
         while (map.is_marked(at, faces)) {
@@ -377,7 +378,7 @@ void print_row(const char *name, double kernel, double library, double hand) {
 }
 
 void compare(const char *numbering, const std::vector<Plan> &plans, int capacity) {
-    std::vector<uint16_t> table(4 * capacity);
+    std::vector<uint16_t> table(LOTSKADI_WORDS_PER_DART * capacity);
     Darts dart(capacity + 1), waiting;
     waiting.reserve(capacity);
     const auto kernel = [&](const Plan &plan) { return by_kernel(plan, table); };
@@ -399,7 +400,7 @@ void compare(const char *numbering, const std::vector<Plan> &plans, int capacity
         measure(plans, l, library);
         measure(plans, h, hand);
     }
-    std::printf("%d tabs, numbered %s, a ring of %zu crossings:\n", plans[0].tabs(), numbering,
+    std::printf("%d tabs, numbered %s, a ring of %zu crossings:\n", plans[0].darts(), numbering,
                 plans[0].ring.size() / 2);
     const char *names[PARTS] = {"build", "count", "ring", "recount"};
     for (int part = 0; part < PARTS; part++) print_row(names[part], k[part], l[part], h[part]);

@@ -1,5 +1,6 @@
-/* A planning screen in a few lines: it builds a tape for a square of four tabs and a ring that parts it, asks what the
- * tape needs, has the kernel play it, prints the report, and names the refusal where there is one.
+/* A planning screen in a few lines: it builds a tape for a square of four darts and a ring that parts it, asks what the
+ * tape needs, has the kernel play it, prints the report, and names the refusal where there is one. What it prints is
+ * for the yard, in document 01's words; the header has both.
  *
  *     rt staticlib c_calls
  *     cc -Iinclude examples/planner.c target/staticlib/libc_calls.a -o target/planner
@@ -21,33 +22,28 @@ static void write_byte(struct tape *tape, uint8_t byte) {
     }
 }
 
-static void write_tab(struct tape *tape, uint16_t tab) {
-    write_byte(tape, tab & 0xFF);
-    write_byte(tape, tab >> 8);
+static void write_dart(struct tape *tape, uint16_t dart) {
+    write_byte(tape, (uint8_t)(dart & 0xFF));
+    write_byte(tape, (uint8_t)(dart >> 8));
 }
 
-static void write_put(struct tape *tape, uint16_t tab) {
+static void write_put(struct tape *tape, uint16_t dart) {
     write_byte(tape, 1);
-    write_tab(tape, tab);
+    write_dart(tape, dart);
 }
 
 static void write_pair(struct tape *tape, uint8_t command, uint16_t a, uint16_t b) {
     write_byte(tape, command);
-    write_tab(tape, a);
-    write_tab(tape, b);
+    write_dart(tape, a);
+    write_dart(tape, b);
 }
 
-static const char *refusal_name(uint32_t number) {
-    static const char *const names[] = {
-        "none",        "wrong size", "bent table", "off the table", "no tab",     "tab taken",
-        "tab held",    "together",   "apart",      "same tab",      "no list",    "tie twice",
-        "gap twice",   "path broken", "short room", "unknown command", "torn command",
-    };
-    return number < sizeof names / sizeof names[0] ? names[number] : "?";
+static const char *refusal(uint32_t number) {
+    return number == LOTSKADI_OK ? "none" : lotskadi_refusal_word(number);
 }
 
 static uint32_t number_at(const uint8_t *out, size_t i) {
-    const uint8_t *four = out + 4 * i;
+    const uint8_t *four = out + sizeof(uint32_t) * i;
     return four[0] | (uint32_t)four[1] << 8 | (uint32_t)four[2] << 16 | (uint32_t)four[3] << 24;
 }
 
@@ -64,10 +60,10 @@ static int show(const struct tape *tape) {
     static uint8_t out[LOTSKADI_SCREEN_ROOM];
     uint8_t refused = lotskadi_screen(tape->bytes, tape->length, out, sizeof out);
     if (refused != LOTSKADI_OK) {
-        printf("the call is refused: %s\n", refusal_name(refused));
+        printf("the call is refused: %s\n", refusal(refused));
         return 1;
     }
-    printf("commands accepted: %" PRIu32 ", refusal: %s\n", number_at(out, 1), refusal_name(number_at(out, 0)));
+    printf("commands accepted: %" PRIu32 ", refusal: %s\n", number_at(out, 1), refusal(number_at(out, 0)));
     for (size_t i = 0; i < sizeof names / sizeof names[0]; i++) {
         printf("  %-14s %" PRId32 "\n", names[i], (int32_t)number_at(out, 2 + i));
     }
@@ -76,8 +72,8 @@ static int show(const struct tape *tape) {
 
 int main(void) {
     struct tape tape = {.length = 0};
-    for (uint16_t tab = 1; tab <= 4; tab++) {
-        write_put(&tape, tab);
+    for (uint16_t dart = 1; dart <= 4; dart++) {
+        write_put(&tape, dart);
     }
     write_pair(&tape, 3, 1, 2);
     write_pair(&tape, 3, 3, 4);
@@ -85,15 +81,15 @@ int main(void) {
     write_pair(&tape, 5, 2, 4);
     write_byte(&tape, 8);
     write_byte(&tape, 2);
-    write_tab(&tape, 1);
-    write_tab(&tape, 2);
-    write_tab(&tape, 3);
-    write_tab(&tape, 4);
+    write_dart(&tape, 1);
+    write_dart(&tape, 2);
+    write_dart(&tape, 3);
+    write_dart(&tape, 4);
     show_needs(&tape);
     if (show(&tape) != 0) {
         return 1;
     }
-    /* tabs 1 and 3 still share a cell: joining them again is refused */
+    /* darts 1 and 3 still share a vertex: joining them again is refused */
     write_pair(&tape, 5, 1, 3);
     return show(&tape);
 }

@@ -1,84 +1,71 @@
-/* The screen's call from C: the square's tape, a refused command, a tab by itself, and both refusals of the call
+/* The screen's call from C: the square's tape, a refused command, a dart by itself, and both refusals of the call
  * itself. */
-#include <stdio.h>
-#include <string.h>
+#include "expect.h"
 
-#include "lotskadi.h"
+static struct lent_bytes lent;
+static uint8_t *out;
 
-static uint8_t out[LOTSKADI_SCREEN_ROOM + 8];
-static uint8_t long_tape[LOTSKADI_MAX_TAPE + 1];
-
-static const uint8_t square[] = {
-    1, 1, 0, 1, 2, 0, 1, 3, 0, 1, 4, 0, 3, 1, 0, 2, 0, 3, 3, 0, 4, 0, 5, 1, 0, 3, 0, 5, 2, 0, 4, 0,
-};
-
-static int failures;
-
-static void expect(int holds, const char *what) {
-    if (!holds) {
-        failures++;
-        printf("FAILED: %s\n", what);
-    }
+static uint8_t screen(const uint8_t *tape, size_t bytes, size_t room) {
+    out = lend_bytes(&lent, NULL, 0);
+    return lotskadi_screen(tape, bytes, out, room);
 }
 
-static uint32_t number_at(size_t i) {
-    return out[i] | (uint32_t)out[i + 1] << 8 | (uint32_t)out[i + 2] << 16 | (uint32_t)out[i + 3] << 24;
+/* The numbers, then this tape, and no other byte. */
+static void expect_screen(const char *what, const uint32_t numbers[SCREEN_NUMBERS], const uint8_t *tape, size_t bytes) {
+    static uint8_t expected[LOTSKADI_SCREEN_ROOM];
+    expect_numbers(what, out, numbers);
+    memcpy(expected, out, LOTSKADI_SCREEN_HEAD);
+    memcpy(expected + LOTSKADI_SCREEN_HEAD, tape, bytes);
+    expect_bytes(what, &lent, expected, LOTSKADI_SCREEN_HEAD + bytes);
 }
 
-static void expect_numbers(const uint32_t expected[10], const char *what) {
-    for (size_t i = 0; i < 10; i++) {
-        expect(number_at(4 * i) == expected[i], what);
-    }
+static void played(void) {
+    static const uint32_t of_square[SCREEN_NUMBERS] = {0, 8, 4, 2, 2, 2, 1, 2, 0, 1};
+    uint8_t number = screen(square_tape, sizeof square_tape, LOTSKADI_SCREEN_ROOM + 1);
+    expect_number("the square is played", number, LOTSKADI_OK);
+    expect_screen("the square", of_square, square_tape, sizeof square_tape);
+
+    /* two components, and one lift: a magnet can't hold dart 3 by itself */
+    static const uint8_t edge_and_dart[] = {1, 1, 0, 1, 2, 0, 1, 3, 0, 3, 1, 0, 2, 0};
+    static const uint32_t of_edge_and_dart[SCREEN_NUMBERS] = {0, 4, 3, 2, 3, 2, 2, 4, 0, 1};
+    number = screen(edge_and_dart, sizeof edge_and_dart, LOTSKADI_SCREEN_ROOM);
+    expect_number("an edge and a dart by itself are played", number, LOTSKADI_OK);
+    expect_screen("a dart by itself is no lift", of_edge_and_dart, edge_and_dart, sizeof edge_and_dart);
+
+    static const uint32_t of_nothing[SCREEN_NUMBERS] = {0};
+    expect_number("an empty tape is played", screen(NULL, 0, LOTSKADI_SCREEN_ROOM), LOTSKADI_OK);
+    expect_screen("the empty plan is all zeros", of_nothing, square_tape, 0);
 }
 
-static void expect_untouched(size_t from, const char *what) {
-    for (size_t i = from; i < sizeof out; i++) {
-        expect(out[i] == 0xEE, what);
-    }
-}
-
-static uint8_t screen(const uint8_t *tape, size_t length, size_t room) {
-    memset(out, 0xEE, sizeof out);
-    return lotskadi_screen(tape, length, out, room);
-}
-
-int main(void) {
-    static const uint32_t of_square[10] = {0, 8, 4, 2, 2, 2, 1, 2, 0, 1};
-    expect(screen(square, sizeof square, sizeof out) == LOTSKADI_OK, "the square is played");
-    expect_numbers(of_square, "the square's numbers");
-    expect(memcmp(out + LOTSKADI_SCREEN_HEAD, square, sizeof square) == 0, "the square's tape is its own");
-    expect_untouched(LOTSKADI_SCREEN_HEAD + sizeof square, "bytes behind the square's tape");
-
-    /* genus 2, so the characteristic is -2; the last command, a join of a tab with itself, is refused */
-    static const uint8_t handles[] = {
+/* Genus 2, so the characteristic is -2; the last command, a join of a dart with itself, is refused. */
+static void stopped(void) {
+    static const uint8_t tape[] = {
         1, 1, 0, 1, 2, 0, 1, 3, 0, 1, 4, 0, 1, 5, 0,
         3, 1, 0, 2, 0, 3, 1, 0, 3, 0, 3, 1, 0, 4, 0, 3, 1, 0, 5, 0,
         5, 1, 0, 2, 0, 5, 1, 0, 3, 0, 5, 1, 0, 4, 0, 5, 1, 0, 5, 0,
         3, 1, 0, 1, 0,
     };
-    static const uint32_t of_handles[10] = {LOTSKADI_TOGETHER, 13, 5, 1, 1, 1, 1, (uint32_t)-2, 2, 1};
-    expect(screen(handles, sizeof handles, LOTSKADI_SCREEN_ROOM) == LOTSKADI_OK, "a refused command is no refusal");
-    expect_numbers(of_handles, "a plan with handles, and the refusal that stopped it");
-    expect(memcmp(out + LOTSKADI_SCREEN_HEAD, handles, sizeof handles - 5) == 0, "the tape of the accepted commands");
+    static const uint32_t numbers[SCREEN_NUMBERS] = {LOTSKADI_TOGETHER, 13, 5, 1, 1, 1, 1, (uint32_t)-2, 2, 1};
+    expect_number("a refused command is no refusal", screen(tape, sizeof tape, LOTSKADI_SCREEN_ROOM), LOTSKADI_OK);
+    expect_screen("what was accepted before a refused command", numbers, tape, sizeof tape - 5);
+}
 
-    /* two pieces, and one lift: a magnet can't hold tab 3 by itself */
-    static const uint8_t tie_and_tab[] = {1, 1, 0, 1, 2, 0, 1, 3, 0, 3, 1, 0, 2, 0};
-    static const uint32_t of_tie_and_tab[10] = {0, 4, 3, 2, 3, 2, 2, 4, 0, 1};
-    expect(screen(tie_and_tab, sizeof tie_and_tab, LOTSKADI_SCREEN_ROOM) == LOTSKADI_OK, "a tie and a tab by itself");
-    expect_numbers(of_tie_and_tab, "a tab by itself is no lift");
-
-    static const uint32_t of_nothing[10] = {0};
-    expect(screen(NULL, 0, LOTSKADI_SCREEN_ROOM) == LOTSKADI_OK, "an empty tape");
-    expect_numbers(of_nothing, "the empty plan is all zeros");
-    expect_untouched(LOTSKADI_SCREEN_HEAD, "no byte of tape");
-
+static void refused(void) {
+    static uint8_t long_tape[LOTSKADI_MAX_TAPE + 1];
     memset(long_tape, 7, sizeof long_tape);
-    expect(screen(long_tape, sizeof long_tape, 0) == LOTSKADI_WRONG_SIZE, "a long tape comes before a short room");
-    expect_untouched(0, "no byte after a wrong size");
-    expect(screen(square, sizeof square, LOTSKADI_SCREEN_ROOM - 1) == LOTSKADI_SHORT_ROOM, "a short room");
-    expect_untouched(0, "no byte after a short room");
-    expect(screen(long_tape, LOTSKADI_MAX_TAPE, sizeof out) == LOTSKADI_OK, "65,536 reports are a tape");
-    expect(number_at(4) == LOTSKADI_MAX_TAPE, "and all are accepted");
+    expect_number("a long tape comes before a short room", screen(long_tape, sizeof long_tape, 0), LOTSKADI_WRONG_SIZE);
+    expect_bytes("no byte after a wrong size", &lent, NULL, 0);
+    uint8_t number = screen(square_tape, sizeof square_tape, LOTSKADI_SCREEN_ROOM - 1);
+    expect_number("a short room", number, LOTSKADI_SHORT_ROOM);
+    expect_bytes("no byte after a short room", &lent, NULL, 0);
+    number = screen(long_tape, LOTSKADI_MAX_TAPE, LOTSKADI_SCREEN_ROOM);
+    expect_number("65,536 reports are a tape", number, LOTSKADI_OK);
+    expect_number("and all are accepted", number_at(out, 1), LOTSKADI_MAX_TAPE);
+}
 
-    return failures != 0;
+int main(void) {
+    played();
+    stopped();
+    refused();
+    return outcome();
 }

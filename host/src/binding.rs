@@ -1,18 +1,18 @@
-//! A safe binding of include/lotskadi.h. A slice is lent as a pointer and a length; two slices of one call never
-//! overlap, since one of them is borrowed for writing.
+//! A safe binding of include/lotskadi.h, in its words. A slice is lent as a pointer and a length; two slices of one
+//! call never overlap, since one of them is borrowed for writing.
 
 /// What a report answers: a refusal and zeros, or 0 and the eight numbers.
 #[repr(C)]
 #[derive(Clone, Copy, PartialEq, Eq, Debug, Default)]
 pub struct Totals {
     pub number: u8,
-    pub tabs: u32,
-    pub ties: u32,
-    pub cells: u32,
-    pub gaps: u32,
-    pub pieces: u32,
+    pub darts: u32,
+    pub edges: u32,
+    pub vertices: u32,
+    pub faces: u32,
+    pub components: u32,
     pub characteristic: i32,
-    pub handles: u32,
+    pub genus: u32,
     pub lifts: u32,
 }
 
@@ -57,15 +57,15 @@ macro_rules! declarations {
     };
 }
 
-macro_rules! one_tab_commands {
+macro_rules! one_dart_commands {
     ($($name:ident),*) => {$(
-        pub fn $name(table: &mut [u16], tab: u32) -> u8 {
-            unsafe { c::$name(table.as_mut_ptr(), table.len(), tab) }
+        pub fn $name(table: &mut [u16], dart: u32) -> u8 {
+            unsafe { c::$name(table.as_mut_ptr(), table.len(), dart) }
         }
     )*};
 }
 
-macro_rules! two_tab_commands {
+macro_rules! two_dart_commands {
     ($($name:ident),*) => {$(
         pub fn $name(table: &mut [u16], a: u32, b: u32) -> u8 {
             unsafe { c::$name(table.as_mut_ptr(), table.len(), a, b) }
@@ -83,8 +83,8 @@ macro_rules! questions {
 
 macro_rules! rounds {
     ($($name:ident),*) => {$(
-        pub fn $name(table: &[u16], tab: u32, out: &mut [u16]) -> Answer {
-            unsafe { c::$name(table.as_ptr(), table.len(), tab, out.as_mut_ptr(), out.len()) }
+        pub fn $name(table: &[u16], dart: u32, out: &mut [u16]) -> Answer {
+            unsafe { c::$name(table.as_ptr(), table.len(), dart, out.as_mut_ptr(), out.len()) }
         }
     )*};
 }
@@ -98,22 +98,22 @@ macro_rules! library {
             use super::{Answer, Needs, Run, Totals};
 
             declarations! { $prefix
-                fn put(table: *mut u16, words: usize, tab: u32) -> u8;
-                fn take_out(table: *mut u16, words: usize, tab: u32) -> u8;
+                fn put(table: *mut u16, words: usize, dart: u32) -> u8;
+                fn take_out(table: *mut u16, words: usize, dart: u32) -> u8;
                 fn edge_join(table: *mut u16, words: usize, a: u32, b: u32) -> u8;
                 fn vertex_join(table: *mut u16, words: usize, a: u32, b: u32) -> u8;
                 fn edge_cut(table: *mut u16, words: usize, a: u32, b: u32) -> u8;
                 fn vertex_cut(table: *mut u16, words: usize, a: u32, b: u32) -> u8;
                 fn ring_cut(table: *mut u16, words: usize, ring: *const u16, ring_words: usize) -> u8;
                 fn report(table: *const u16, words: usize) -> Totals;
-                fn component_report(table: *const u16, words: usize, tab: u32) -> Totals;
+                fn component_report(table: *const u16, words: usize, dart: u32) -> Totals;
                 fn same_edge(table: *const u16, words: usize, a: u32, b: u32) -> Answer;
                 fn same_vertex(table: *const u16, words: usize, a: u32, b: u32) -> Answer;
                 fn same_face(table: *const u16, words: usize, a: u32, b: u32) -> Answer;
                 fn same_component(table: *const u16, words: usize, a: u32, b: u32) -> Answer;
-                fn edge_round(table: *const u16, words: usize, tab: u32, out: *mut u16, room: usize) -> Answer;
-                fn vertex_round(table: *const u16, words: usize, tab: u32, out: *mut u16, room: usize) -> Answer;
-                fn face_round(table: *const u16, words: usize, tab: u32, out: *mut u16, room: usize) -> Answer;
+                fn edge_round(table: *const u16, words: usize, dart: u32, out: *mut u16, room: usize) -> Answer;
+                fn vertex_round(table: *const u16, words: usize, dart: u32, out: *mut u16, room: usize) -> Answer;
+                fn face_round(table: *const u16, words: usize, dart: u32, out: *mut u16, room: usize) -> Answer;
                 fn component_marks(table: *const u16, words: usize, out: *mut u16, room: usize) -> Answer;
                 fn play(table: *mut u16, words: usize, tape: *const u8, bytes: usize) -> Run;
                 fn tape_needs(tape: *const u8, bytes: usize) -> Needs;
@@ -122,8 +122,8 @@ macro_rules! library {
             }
         }
 
-        one_tab_commands! { put, take_out }
-        two_tab_commands! { edge_join, vertex_join, edge_cut, vertex_cut }
+        one_dart_commands! { put, take_out }
+        two_dart_commands! { edge_join, vertex_join, edge_cut, vertex_cut }
         questions! { same_edge, same_vertex, same_face, same_component }
         rounds! { edge_round, vertex_round, face_round }
 
@@ -135,8 +135,8 @@ macro_rules! library {
             unsafe { c::report(table.as_ptr(), table.len()) }
         }
 
-        pub fn component_report(table: &[u16], tab: u32) -> Totals {
-            unsafe { c::component_report(table.as_ptr(), table.len(), tab) }
+        pub fn component_report(table: &[u16], dart: u32) -> Totals {
+            unsafe { c::component_report(table.as_ptr(), table.len(), dart) }
         }
 
         pub fn component_marks(table: &[u16], out: &mut [u16]) -> Answer {

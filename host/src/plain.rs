@@ -150,7 +150,17 @@ fn marked_counts(table: &[u16], marks: &mut [u16], pieces: u32, lifts: u32, gaps
     let ties = count_ties(table, 2, marks);
     let characteristic = cells as i32 + ties as i32 + gaps as i32 - tabs as i32;
     let handles = ((2 * pieces as i32 - characteristic) / 2) as u32;
-    Totals { number: 0, tabs, ties, cells, gaps, pieces, characteristic, handles, lifts }
+    Totals {
+        number: 0,
+        darts: tabs,
+        edges: ties,
+        vertices: cells,
+        faces: gaps,
+        components: pieces,
+        characteristic,
+        genus: handles,
+        lifts,
+    }
 }
 
 /// A tab number from `tab` on, with marks at all before it: four at a time, as long as that goes.
@@ -589,13 +599,13 @@ pub fn screen(tape: &[u8], out: &mut [u8]) -> u8 {
     let numbers = [
         u32::from(run.number),
         run.accepted,
-        c.tabs,
-        c.ties,
-        c.cells,
-        c.gaps,
-        c.pieces,
+        c.darts,
+        c.edges,
+        c.vertices,
+        c.faces,
+        c.components,
         c.characteristic as u32,
-        c.handles,
+        c.genus,
         c.lifts,
     ];
     for (four, number) in out.chunks_exact_mut(4).zip(numbers) {

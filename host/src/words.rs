@@ -23,19 +23,19 @@ pub fn row(tabs: &[Tab]) -> String {
     }
 }
 
-/// The eight numbers of a report.
+/// The eight numbers of a report, by document 01's words.
 pub fn report(totals: &Totals) -> String {
     let counts = |things: &[(u32, &str)]| -> String {
         let each: Vec<String> = things.iter().map(|&(number, thing)| counted(number as usize, thing)).collect();
         each.join(", ")
     };
     let parts = [
-        (totals.tabs, "tab"),
-        (totals.ties, "tie"),
-        (totals.cells, "cell"),
-        (totals.gaps, "gap"),
-        (totals.pieces, "piece"),
+        (totals.darts, "tab"),
+        (totals.edges, "tie"),
+        (totals.vertices, "cell"),
+        (totals.faces, "gap"),
+        (totals.components, "piece"),
     ];
-    let rest = [(totals.handles, "handle"), (totals.lifts, "lift")];
+    let rest = [(totals.genus, "handle"), (totals.lifts, "lift")];
     format!("{}, characteristic {}, {}", counts(&parts), totals.characteristic, counts(&rest))
 }

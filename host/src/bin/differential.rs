@@ -153,7 +153,7 @@ fn ring_beside(random: &mut Random, met: &mut Met) {
     let others = plans::random(random, 30);
     let plan = plans::beside(&grid, &others, MAX_CAPACITY);
     let mut lent = Lent::of(&plan);
-    assert_eq!(lent.component_report(met, ring[0]).handles, 0, "a grid is flat");
+    assert_eq!(lent.component_report(met, ring[0]).genus, 0, "a grid is flat");
     let reports = |lent: &Lent, met: &mut Met| -> Vec<Totals> {
         let behind = grid.tie.len() as Tab + 1;
         lent.plan().tie.keys().filter(|&&t| t >= behind).map(|&t| lent.component_report(met, t)).collect()
@@ -162,10 +162,10 @@ fn ring_beside(random: &mut Random, met: &mut Met) {
     let tabs = grid.tie.len() as u32;
     assert_eq!(lent.command(met, &Command::Ring(ring.clone())), 0, "a ring of the grid");
     let (inner, outer) = (lent.component_report(met, ring[0]), lent.component_report(met, ring[1]));
-    assert_eq!((inner.handles, outer.handles), (0, 0), "two flat pieces");
-    assert_eq!(inner.tabs + outer.tabs, tabs, "the ring's piece parts in two");
+    assert_eq!((inner.genus, outer.genus), (0, 0), "two flat pieces");
+    assert_eq!(inner.darts + outer.darts, tabs, "the ring's piece parts in two");
     assert_eq!(reports(&lent, met), before, "every other piece keeps its report");
-    met.rings_beside_handles += u64::from(before.iter().any(|t| t.handles > 0));
+    met.rings_beside_handles += u64::from(before.iter().any(|t| t.genus > 0));
 }
 
 /// What is as large as it may be, and one more.

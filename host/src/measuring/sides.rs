@@ -42,12 +42,12 @@ macro_rules! sides {
 }
 
 sides! {
-    fn put(table: &mut [u16], tab: u32) -> u8;
+    fn put(table: &mut [u16], dart: u32) -> u8;
     fn edge_join(table: &mut [u16], a: u32, b: u32) -> u8;
     fn ring_cut(table: &mut [u16], ring: &[u16]) -> u8;
     fn report(table: &[u16]) -> Totals;
-    fn component_report(table: &[u16], tab: u32) -> Totals;
-    fn face_round(table: &[u16], tab: u32, out: &mut [u16]) -> Answer;
+    fn component_report(table: &[u16], dart: u32) -> Totals;
+    fn face_round(table: &[u16], dart: u32, out: &mut [u16]) -> Answer;
     fn play(table: &mut [u16], tape: &[u8]) -> Run;
     fn tape_needs(tape: &[u8]) -> Needs;
     fn write_tape(table: &[u16], out: &mut [u8]) -> Answer;
@@ -60,15 +60,15 @@ mod plain_calls {
     use crate::plain::{self, Dimension};
     pub use crate::plain::{play, report, ring_cut, screen, tape_needs, write_tape};
 
-    /// A tab number in 16 bits; one that does not fit becomes one that no table has.
+    /// A dart number in 16 bits; one that does not fit becomes one that no table has.
     #[inline]
-    fn narrow(tab: u32) -> u16 {
-        tab.try_into().unwrap_or(u16::MAX)
+    fn narrow(dart: u32) -> u16 {
+        dart.try_into().unwrap_or(u16::MAX)
     }
 
     #[inline]
-    pub fn put(table: &mut [u16], tab: u32) -> u8 {
-        plain::put(table, narrow(tab))
+    pub fn put(table: &mut [u16], dart: u32) -> u8 {
+        plain::put(table, narrow(dart))
     }
 
     #[inline]
@@ -77,12 +77,12 @@ mod plain_calls {
     }
 
     #[inline]
-    pub fn component_report(table: &[u16], tab: u32) -> Totals {
-        plain::piece_report(table, narrow(tab))
+    pub fn component_report(table: &[u16], dart: u32) -> Totals {
+        plain::piece_report(table, narrow(dart))
     }
 
     #[inline]
-    pub fn face_round(table: &[u16], tab: u32, out: &mut [u16]) -> Answer {
-        plain::gap_round(table, narrow(tab), out)
+    pub fn face_round(table: &[u16], dart: u32, out: &mut [u16]) -> Answer {
+        plain::gap_round(table, narrow(dart), out)
     }
 }

@@ -43,13 +43,13 @@ fn totals(plan: &Plan) -> Totals {
     let r = plan.report();
     Totals {
         number: 0,
-        tabs: r.tabs as u32,
-        ties: r.ties as u32,
-        cells: r.cells as u32,
-        gaps: r.gaps as u32,
-        pieces: r.pieces as u32,
+        darts: r.tabs as u32,
+        edges: r.ties as u32,
+        vertices: r.cells as u32,
+        faces: r.gaps as u32,
+        components: r.pieces as u32,
         characteristic: r.characteristic as i32,
-        handles: r.handles as u32,
+        genus: r.handles as u32,
         lifts: r.lifts as u32,
     }
 }
@@ -151,8 +151,8 @@ impl Lent {
         };
         assert_eq!(self.ask("a report", binding::report), expected, "report of {:?}", &self.words[..]);
         met.note(expected.number);
-        met.with_handles += u64::from(expected.handles > 0);
-        met.partly_lifted += u64::from(0 < expected.lifts && expected.lifts < expected.pieces);
+        met.with_handles += u64::from(expected.genus > 0);
+        met.partly_lifted += u64::from(0 < expected.lifts && expected.lifts < expected.components);
     }
 
     /// The report of one tab's piece.
@@ -173,14 +173,14 @@ impl Lent {
         let mut sum = Totals { number: self.refusal(), ..Totals::default() };
         for piece in plan.parts(Part::Piece) {
             let t = self.component_report(met, *piece.first().expect("a piece has a tab"));
-            assert_eq!(t.cells + t.ties + t.gaps + 2 * t.handles, 2 + t.tabs, "Euler's formula of a piece");
-            sum.tabs += t.tabs;
-            sum.ties += t.ties;
-            sum.cells += t.cells;
-            sum.gaps += t.gaps;
-            sum.pieces += t.pieces;
+            assert_eq!(t.vertices + t.edges + t.faces + 2 * t.genus, 2 + t.darts, "Euler's formula of a piece");
+            sum.darts += t.darts;
+            sum.edges += t.edges;
+            sum.vertices += t.vertices;
+            sum.faces += t.faces;
+            sum.components += t.components;
             sum.characteristic += t.characteristic;
-            sum.handles += t.handles;
+            sum.genus += t.genus;
             sum.lifts += t.lifts;
         }
         assert_eq!(binding::report(&self.words), sum, "the pieces of {:?}", &self.words[..]);
