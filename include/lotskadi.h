@@ -26,7 +26,11 @@
  *
  * What is proved of a call holds for pointers as C may lend them: each pointer is valid for its length and aligned,
  * memory that is written overlaps no other memory of the call, and no other thread touches either meanwhile. Lengths
- * count words or bytes, as the name says. An empty list is any pointer, NULL too, with length 0. */
+ * count words or bytes, as the name says. An empty list is any pointer, NULL too, with length 0.
+ *
+ * The stack that a call takes is measured, not proved: LOTSKADI_CALL_STACK bytes suffice. On x86-64, with a full table
+ * and the longest ring and tape, lotskadi_screen takes the most, 49,479 bytes, since its table lies there too;
+ * lotskadi_report and lotskadi_write_tape take 16,615, and every other call takes less. */
 #ifndef LOTSKADI_H
 #define LOTSKADI_H
 
@@ -67,6 +71,7 @@ enum {
     LOTSKADI_MAX_TAPE = 65536,    /* bytes that a tape may have */
     LOTSKADI_TAPE_ROOM = 53238,   /* bytes that every plan's tape fits */
     LOTSKADI_SCREEN_HEAD = 40,    /* bytes before the tape that the screen's call rewrites */
+    LOTSKADI_CALL_STACK = 65536,  /* bytes of stack that suffice for a call: measured, not proved */
 
     /* words that a table may have */
     LOTSKADI_MAX_WORDS = LOTSKADI_WORDS_PER_DART * LOTSKADI_MAX_CAPACITY,
