@@ -80,7 +80,7 @@ module _
     (s : Stretching w₀ tape old w rest out at) where
   -- THE END of the tape
   pub stretchDone :
-      length rest ≡ 0 → {k : ℕ} → IsStretch w₀ tape old w out (record { written = at; read = k; ended = true })
+      length rest ≡ 0 → IsStretch w₀ tape old w out (record { written = at; read = 0; ended = true })
   stretchDone e = record {
     lines = rw (front (s .lays) (s .fits)) (s .lines ∙ ap (λ l. s .text ++ l) (linesNone w rest e));
     kept = back (s .lays) (s .fits);
@@ -89,6 +89,7 @@ module _
     within = s .ready .table;
     size = s .size;
     more = λ z. clash refl z;
+    done = λ z. refl;
   }
 
   -- THE BUFFER is nearly full
@@ -105,14 +106,15 @@ module _
         within = s .ready .table;
         size = s .size;
         more = λ z. (omega arith, omega arith);
+        done = λ z. clash z refl;
       }
 
   module _ (h : at ≤ full) where
     -- A REFUSAL: the last line
     refusedBy :
-        (n : ℕ) → linesOf w rest ≡ refusedLine n → runOf w rest .table ≡ w → {p : List ℕ} {m k : ℕ} →
+        (n : ℕ) → linesOf w rest ≡ refusedLine n → runOf w rest .table ≡ w → {p : List ℕ} {m : ℕ} →
         Lays at (refusedLine n) out p m →
-        IsStretch w₀ tape old w p (record { written = m; read = k; ended = true })
+        IsStretch w₀ tape old w p (record { written = m; read = 0; ended = true })
     refusedBy n e t {p} {m} l =
         let a = laysThen (s .lays) l in
         let f : m ≤ length old = omega (arith, l .place, roomRefused {out = out} (s .ready .room) h n .room, laysLength (s .lays)) in
@@ -125,13 +127,14 @@ module _
           within = s .ready .table;
           size = s .size;
           more = λ z. clash refl z;
+          done = λ z. refl;
         }
 
     -- the decoder reads r
     module _ (some : 0 < length rest) (r : Reading) (a : Reads rest r) where
       pub stretchUnread :
-          (n m : ℕ) → r ≡ Refused n → m ≡ refusalIn r → {p : List ℕ} {e k : ℕ} → Lays at (refusedLine m) out p e →
-          IsStretch w₀ tape old w p (record { written = e; read = k; ended = true })
+          (n m : ℕ) → r ≡ Refused n → m ≡ refusalIn r → {p : List ℕ} {e : ℕ} → Lays at (refusedLine m) out p e →
+          IsStretch w₀ tape old w p (record { written = e; read = 0; ended = true })
       stretchUnread n m b e l =
           let q : Reads rest (Refused n) = rw b at a in
           let g : m ≡ readRefusal rest = rw (b, q .0) at e in
@@ -153,8 +156,8 @@ module _
         stepSize = rw l (leavesWithin w (meaning rest i) (s .ready .table) .1) ∙ s .size
 
         pub stretchStopped :
-            (f ≡ 0 → ⊥) → {p : List ℕ} {m k : ℕ} → Lays at (refusedLine f) out p m →
-            IsStretch w₀ tape old v p (record { written = m; read = k; ended = true })
+            (f ≡ 0 → ⊥) → {p : List ℕ} {m : ℕ} → Lays at (refusedLine f) out p m →
+            IsStretch w₀ tape old v p (record { written = m; read = 0; ended = true })
         unfolding leaves
         stretchStopped d q =
             let g : f ≡ stepRefusal w (commandOf rest) = rw (read .1) at e in

@@ -1,6 +1,6 @@
 -- What the program's functions are lent and answer. Assumes nothing: these are definitions.
 use mathlib.Core.Path.{_≡_}
-use mathlib.Core.Bool.{false, cond}
+use mathlib.Core.Bool.{true, false, cond}
 use mathlib.Core.List.{List, [], _++_}
 use Prim.Native.Nat.{ℕ, _+_, _≤_, _<_}
 use lib.ListN.{length, take, drop}
@@ -43,5 +43,6 @@ pub record IsStretch (w : Table) (tape old : List ℕ) (v : Table) (out : List �
   pub table : runOf w tape .table ≡ cond (s .ended) v (runOf v (drop (s .read) tape) .table)
   pub within : WithinCapacity v
   pub size : length v ≡ length w
-  -- a stretch that does not end the run has read something
+  -- a stretch that does not end the run has read something; of one that does, 0 is told
   pub more : s .ended ≡ false → (0 < s .read) × (s .read ≤ length tape)
+  pub done : s .ended ≡ true → s .read ≡ 0
