@@ -17,17 +17,21 @@ pub record Copied (from : ℕ) (bytes old out : List ℕ) (at i : ℕ) : Type 0 
 pub copiedNone : {from : ℕ} {bytes o : List ℕ} → Copied from bytes o o from 0
 copiedNone = record { few = omega arith; laid = laysNone }
 
-module _ {from : ℕ} {bytes old out : List ℕ} {at i : ℕ} (h : HasRoom from bytes old) (g : Copied from bytes old out at i)
-  where
-    pub copiedSize : length out ≡ length old
-    copiedSize = laysLength (g .laid)
+module _
+    {from : ℕ} {bytes old out : List ℕ} {at i : ℕ} (h : HasRoom from bytes old)
+    (g : Copied from bytes old out at i) where
+  pub copiedSize : length out ≡ length old
+  copiedSize = laysLength (g .laid)
 
-    module _ (l : i < length bytes) where
-      pub copiedRoom : at < length out
-      copiedRoom = omega (arith, g .laid .place, length-take-le i bytes (g .few), copiedSize, h .room)
+  module _ (l : i < length bytes) where
+    pub copiedRoom : at < length out
+    copiedRoom = omega (arith, g .laid .place, length-take-le i bytes (g .few), copiedSize, h .room)
 
-      pub copiedMore : Copied from bytes old (set out at (getD bytes i 0)) (at + 1) (i + 1)
-      copiedMore = record { few = omega arith; laid = rw (add-one, take-suc bytes i 0 l) (laysThen (g .laid) (laysOne refl)) }
+    pub copiedMore : Copied from bytes old (set out at (getD bytes i 0)) (at + 1) (i + 1)
+    copiedMore = record {
+      few = omega arith;
+      laid = rw (add-one, take-suc bytes i 0 l) (laysThen (g .laid) (laysOne refl));
+    }
 
-    pub copiedAll : length bytes ≤ i → Lays from bytes old out at
-    copiedAll l = rw (take-all i bytes l) at (g .laid)
+  pub copiedAll : length bytes ≤ i → Lays from bytes old out at
+  copiedAll l = rw (take-all i bytes l) at (g .laid)

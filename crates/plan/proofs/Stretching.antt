@@ -117,7 +117,8 @@ module _
         IsStretch w₀ tape old w p (record { written = m; read = 0; ended = true })
     refusedBy n e t {p} {m} l =
         let a = laysThen (s .lays) l in
-        let f : m ≤ length old = omega (arith, l .place, roomRefused {out = out} (s .ready .room) h n .room, laysLength (s .lays)) in
+        let f : m ≤ length old =
+        omega (arith, l .place, roomRefused {out = out} (s .ready .room) h n .room, laysLength (s .lays)) in
         record {
           lines =
               s .lines ∙ ap (λ z. s .text ++ z) e ∙ sym (front a f) ∙ sym (append-nil (take m p));
@@ -150,7 +151,10 @@ module _
         read = wholeRead rest r a i n b
 
         pub stepReady : Ready v out
-        stepReady = record { table = rw l (leavesWithin w (meaning rest i) (s .ready .table) .0); room = s .ready .room }
+        stepReady = record {
+          table = rw l (leavesWithin w (meaning rest i) (s .ready .table) .0);
+          room = s .ready .room;
+        }
 
         pub stepSize : length v ≡ length w₀
         stepSize = rw l (leavesWithin w (meaning rest i) (s .ready .table) .1) ∙ s .size
@@ -191,13 +195,14 @@ module _
           stretchingOn {p} {m} q =
               let x = restShorter rest some in
               let y = laysLength q in
+              let room = roomAccepted {out = out} (s .ready .room) h v i in
               rw (part-to-end, read .2)
               (record {
                 ready = record { table = stepReady .table; room = omega (arith, s .ready .room) };
                 size = stepSize;
                 text = s .text ++ instructionLine v i;
                 lays = laysThen (s .lays) q;
-                fits = omega (arith, q .place, roomAccepted {out = out} (s .ready .room) h v i .room, laysLength (s .lays));
+                fits = omega (arith, q .place, room .room, laysLength (s .lays));
                 lines =
                     s .lines ∙ ap (λ t. s .text ++ t) (linesOn w rest some (read .0) accepted) ∙
                     rw (line, stepped) (sym (append-assoc (s .text) _ _));

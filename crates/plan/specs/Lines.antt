@@ -1,6 +1,6 @@
--- The lines that the program writes. Document 01: "It writes `ok` a command, the eight report numbers in the order above
--- for 07, or `refused` and the number, then ends. .. numbers are decimal, a negative one with a minus in front." Assumes
--- nothing: these are definitions.
+-- The lines that the program writes. Document 01: "It writes `ok` a command, the eight report numbers in the order
+-- above for 07, or `refused` and the number, then ends. .. numbers are decimal, a negative one with a minus in front."
+-- Assumes nothing: these are definitions.
 use mathlib.Core.Bool.{cond}
 use mathlib.Core.List.{List, [], _∷_, _++_}
 use Prim.Native.Nat.{ℕ, zero, suc, _+_, _/_, _%_}
@@ -12,8 +12,8 @@ use Rattle.parts.specs.declared.Counts.{Counts}
 use Rattle.tape.specs.Steps.{TapeCommand, changes, reports, cutsRing, stepRefusal, stepOn}
 use Rattle.tape.specs.Tapes.{contentsOf}
 
--- NUMBERS. The digits of a number, the first of them not 0 unless it is alone. A digit's byte is 48 and the digit. Fuel:
--- the most digits
+-- NUMBERS. The digits of a number, the first of them not 0 unless it is alone. A digit's byte is 48 and the digit.
+-- Fuel: the most digits
 unfoldable pub decimalBy : (most : ℕ) → ℕ → List ℕ
 decimalBy zero n = []
 decimalBy (suc k) n = cond (ltb n 10) ((48 + n) ∷ []) (decimalBy k (n / 10) ++ ((48 + n % 10) ∷ []))

@@ -37,14 +37,19 @@ read-requires c κs = refl
 -- a command that cannot be read
 write-refused-requires : tie.Need-write-refused-requires Inv-loop μ-loop
 write-refused-requires c κs =
-    let t = c .before .before .before .before .before .before .before in roomRefused (t .before .loop .inv .ready .room) (t .loop-test .taken) _
+    let t = c .before .before .before .before .before .before .before in
+    roomRefused (t .before .loop .inv .ready .room) (t .loop-test .taken) _
 
 same-length-3 : tie.Need-same-length-3 Inv-loop μ-loop
-same-length-3 c = c .before .before .before .before .before .before .before .before .before .before .before .loop .inv .size
+same-length-3 c =
+    let k = c .before .before in
+    k .before .before .before .before .before .before .before .before .before .loop .inv .size
 
 same-length-4 : tie.Need-same-length-4 Inv-loop μ-loop
 same-length-4 c =
-    let k = c .before .before in k .write-refused .kept .0 ∙ laysLength (k .before .before .before .before .before .before .before .before .before .loop .inv .lays)
+    let k = c .before .before in
+    let l = k .before .before .before .before .before .before .before .before .before in
+    k .write-refused .kept .0 ∙ laysLength (l .loop .inv .lays)
 
 returns-2 : tie.Need-returns-2 Inv-loop μ-loop
 returns-2 c =
@@ -63,15 +68,20 @@ take-step-requires c κs = c .before .before .before .before .before .before .be
 -- a command that is refused
 write-refused-requires-2 : tie.Need-write-refused-requires-2 Inv-loop μ-loop
 write-refused-requires-2 c κs =
-    let t = c .before .before .before .before .before .before .before .before .before .before .before .before in roomRefused (t .before .loop .inv .ready .room) (t .loop-test .taken) _
+    let t = c .before .before .before .before .before .before .before .before .before .before .before .before in
+    roomRefused (t .before .loop .inv .ready .room) (t .loop-test .taken) _
 
 same-length-5 : tie.Need-same-length-5 Inv-loop μ-loop
 same-length-5 c =
-    let p = c .before .before .before .before .before .before .before in p .take-step .kept .0 ∙ p .before .before .before .before .before .before .before .before .before .loop .inv .size
+    let p = c .before .before .before .before .before .before .before in
+    p .take-step .kept .0 ∙ p .before .before .before .before .before .before .before .before .before .loop .inv .size
 
 same-length-6 : tie.Need-same-length-6 Inv-loop μ-loop
 same-length-6 c =
-    let k = c .before .before in k .write-refused2 .kept .0 ∙ laysLength (k .before .before .before .before .before .before .before .before .before .before .before .before .before .before .loop .inv .lays)
+    let k = c .before .before in
+    let p = k .before .before .before .before .before in
+    let l = p .before .before .before .before .before .before .before .before .before in
+    k .write-refused2 .kept .0 ∙ laysLength (l .loop .inv .lays)
 
 returns-3 : tie.Need-returns-3 Inv-loop μ-loop
 returns-3 c =
@@ -95,14 +105,16 @@ write-accepted-requires c κs =
     let i = d .before .before in
     let t = i .before in
     record {
-      ready = stepReady (t .before .loop .inv) (t .loop-test .taken) (omega (arith, i .if1 .left)) _ (d .read .ensures) _ _
+      ready =
+          stepReady (t .before .loop .inv) (t .loop-test .taken) (omega (arith, i .if1 .left)) _ (d .read .ensures) _ _
           (r .reading .given .1) _ (p .take-step .ensures .0) _ (p .take-step .ensures .1);
       notFull = t .loop-test .taken;
     }
 
 sub-rest : tie.Need-sub-rest Inv-loop μ-loop
 sub-rest c =
-    let r = c .before .before .before .before .before .before .before .before .before .before .before in wholeFits _ _ (r .before .before .read .ensures) _ _ (r .reading .given .1)
+    let r = c .before .before .before .before .before .before .before .before .before .before .before in
+    wholeFits _ _ (r .before .before .read .ensures) _ _ (r .reading .given .1)
 
 part-rest-start : tie.Need-part-rest-start Inv-loop μ-loop
 part-rest-start c = sub-rest c

@@ -6,18 +6,31 @@ use Rattle.plan.specs.Lines.{reportLine}
 use Rattle.plan.proofs.text.write_report.Statement.{statement}
 use Rattle.plan.proofs.text.write_report.Tie as tie
 
+-- rₖ is room for the first k parts of the line, and lₖ that these are laid. By z the characteristic is read back from
+-- the bits of an i32
 write-number-requires : tie.Need-write-number-requires
 unfolding reportLine
 write-number-requires c κs =
-    roomFirst _ _ (roomFirst _ _ (roomFirst _ _ (roomFirst _ _ (roomFirst _ _ (roomFirst _ _ (c .before .before .pre))))))
+    let r₆ = roomFirst _ _ (c .before .before .pre) in
+    let r₅ = roomFirst _ _ r₆ in
+    let r₄ = roomFirst _ _ r₅ in
+    let r₃ = roomFirst _ _ r₄ in
+    let r₂ = roomFirst _ _ r₃ in
+    let r₁ = roomFirst _ _ r₂ in
+    r₁
 
 write-two-requires : tie.Need-write-two-requires
 unfolding reportLine
 write-two-requires c κs =
     let a = c .before .before .before in
     let s = a .before .before .before in
-    roomThen (roomFirst _ _ (roomFirst _ _ (roomFirst _ _ (roomFirst _ _ (roomFirst _ _ (s .pre))))))
-    (a .write-number .ensures)
+    let r₆ = roomFirst _ _ (s .pre) in
+    let r₅ = roomFirst _ _ r₆ in
+    let r₄ = roomFirst _ _ r₅ in
+    let r₃ = roomFirst _ _ r₄ in
+    let r₂ = roomFirst _ _ r₃ in
+    let l₁ = a .write-number .ensures in
+    roomThen r₂ l₁
 
 write-two-requires-2 : tie.Need-write-two-requires-2
 unfolding reportLine
@@ -25,8 +38,13 @@ write-two-requires-2 c κs =
     let b = c .before .before .before in
     let a = b .before .before .before .before in
     let s = a .before .before .before in
-    roomThen (roomFirst _ _ (roomFirst _ _ (roomFirst _ _ (roomFirst _ _ (s .pre)))))
-    (laysThen (a .write-number .ensures) (b .write-two .ensures))
+    let r₆ = roomFirst _ _ (s .pre) in
+    let r₅ = roomFirst _ _ r₆ in
+    let r₄ = roomFirst _ _ r₅ in
+    let r₃ = roomFirst _ _ r₄ in
+    let l₁ = a .write-number .ensures in
+    let l₂ = laysThen l₁ (b .write-two .ensures) in
+    roomThen r₃ l₂
 
 write-byte-requires : tie.Need-write-byte-requires
 unfolding reportLine
@@ -35,8 +53,13 @@ write-byte-requires c κs =
     let b = d .before .before .before .before in
     let a = b .before .before .before .before in
     let s = a .before .before .before in
-    roomThen (roomFirst _ _ (roomFirst _ _ (roomFirst _ _ (s .pre))))
-    (laysThen (laysThen (a .write-number .ensures) (b .write-two .ensures)) (d .write-two2 .ensures))
+    let r₆ = roomFirst _ _ (s .pre) in
+    let r₅ = roomFirst _ _ r₆ in
+    let r₄ = roomFirst _ _ r₅ in
+    let l₁ = a .write-number .ensures in
+    let l₂ = laysThen l₁ (b .write-two .ensures) in
+    let l₃ = laysThen l₂ (d .write-two2 .ensures) in
+    roomThen r₄ l₃
 
 write-signed-requires : tie.Need-write-signed-requires
 unfolding reportLine
@@ -48,8 +71,13 @@ write-signed-requires c κs =
     let s = a .before .before .before in
     let z = toZ-ofZ {w = w32} {z = s .args .c .characteristic}
     (record { sfits = c .struct-told .given .1 .1 .1 .1 .1 .0 .1 }) in
-    rw z (roomThen (roomFirst _ _ (roomFirst _ _ (s .pre)))
-    (laysThen (laysThen (laysThen (a .write-number .ensures) (b .write-two .ensures)) (d .write-two2 .ensures)) (e .write-byte .ensures)))
+    let r₆ = roomFirst _ _ (s .pre) in
+    let r₅ = roomFirst _ _ r₆ in
+    let l₁ = a .write-number .ensures in
+    let l₂ = laysThen l₁ (b .write-two .ensures) in
+    let l₃ = laysThen l₂ (d .write-two2 .ensures) in
+    let l₄ = laysThen l₃ (e .write-byte .ensures) in
+    rw z (roomThen r₅ l₄)
 
 write-two-requires-3 : tie.Need-write-two-requires-3
 unfolding reportLine
@@ -62,8 +90,13 @@ write-two-requires-3 c κs =
     let s = a .before .before .before in
     let z = toZ-ofZ {w = w32} {z = s .args .c .characteristic}
     (record { sfits = f .before .struct-told .given .1 .1 .1 .1 .1 .0 .1 }) in
-    roomThen (roomFirst _ _ (s .pre))
-    (laysThen (laysThen (laysThen (laysThen (a .write-number .ensures) (b .write-two .ensures)) (d .write-two2 .ensures)) (e .write-byte .ensures)) (rw z at (f .write-signed .ensures)))
+    let r₆ = roomFirst _ _ (s .pre) in
+    let l₁ = a .write-number .ensures in
+    let l₂ = laysThen l₁ (b .write-two .ensures) in
+    let l₃ = laysThen l₂ (d .write-two2 .ensures) in
+    let l₄ = laysThen l₃ (e .write-byte .ensures) in
+    let l₅ = laysThen l₄ (rw z at (f .write-signed .ensures)) in
+    roomThen r₆ l₅
 
 write-byte-requires-2 : tie.Need-write-byte-requires-2
 unfolding reportLine
@@ -77,8 +110,13 @@ write-byte-requires-2 c κs =
     let s = a .before .before .before in
     let z = toZ-ofZ {w = w32} {z = s .args .c .characteristic}
     (record { sfits = f .before .struct-told .given .1 .1 .1 .1 .1 .0 .1 }) in
-    roomThen (s .pre)
-    (laysThen (laysThen (laysThen (laysThen (laysThen (a .write-number .ensures) (b .write-two .ensures)) (d .write-two2 .ensures)) (e .write-byte .ensures)) (rw z at (f .write-signed .ensures))) (g .write-two3 .ensures))
+    let l₁ = a .write-number .ensures in
+    let l₂ = laysThen l₁ (b .write-two .ensures) in
+    let l₃ = laysThen l₂ (d .write-two2 .ensures) in
+    let l₄ = laysThen l₃ (e .write-byte .ensures) in
+    let l₅ = laysThen l₄ (rw z at (f .write-signed .ensures)) in
+    let l₆ = laysThen l₅ (g .write-two3 .ensures) in
+    roomThen (s .pre) l₆
 
 returns : tie.Need-returns
 unfolding reportLine
@@ -93,7 +131,13 @@ returns c =
     let s = a .before .before .before in
     let z = toZ-ofZ {w = w32} {z = s .args .c .characteristic}
     (record { sfits = f .before .struct-told .given .1 .1 .1 .1 .1 .0 .1 }) in
-    laysThen (laysThen (laysThen (laysThen (laysThen (laysThen (a .write-number .ensures) (b .write-two .ensures)) (d .write-two2 .ensures)) (e .write-byte .ensures)) (rw z at (f .write-signed .ensures))) (g .write-two3 .ensures)) (h .write-byte2 .ensures)
+    let l₁ = a .write-number .ensures in
+    let l₂ = laysThen l₁ (b .write-two .ensures) in
+    let l₃ = laysThen l₂ (d .write-two2 .ensures) in
+    let l₄ = laysThen l₃ (e .write-byte .ensures) in
+    let l₅ = laysThen l₄ (rw z at (f .write-signed .ensures)) in
+    let l₆ = laysThen l₅ (g .write-two3 .ensures) in
+    laysThen l₆ (h .write-byte2 .ensures)
 
 pub write-report-spec : {M : Type 1} → statement M
 write-report-spec =
