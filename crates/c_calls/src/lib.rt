@@ -157,7 +157,7 @@ pub extern "C" fn lotskadi_component_marks(table: &[u16], out: &mut [u16]) -> An
 #[no_mangle]
 pub extern "C" fn lotskadi_play(table: &mut [u16], tape: &[u8]) -> Run
     ensures { λ r. ⌜ r ≡ toldOf (playOutcome (now (table .entry)) (now (tape .entry))) ⌝ }
-    ensures table { λ r. ⌜ now (table .exit) ≡ playOutcome (now (table .entry)) (now (tape .entry)) .table ⌝ }
+    ensures table { λ r. ⌜ now (table .exit) ≡ playOutcome (now (table .entry)) (now (tape .entry)) .state ⌝ }
 {
     kernel::play(table, tape)
 }

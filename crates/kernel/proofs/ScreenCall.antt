@@ -28,7 +28,7 @@ module _ (bs o : List ℕ) where
 
   pub screenGiven :
       (e w : Table) (r : Run) (p : List ℕ) → length bs ≤ maxTape → screenRoom ≤ length o →
-      e ≡ emptyTable maxCapacity → r ≡ toldOf (runOf e bs) → w ≡ runOf e bs .table →
+      e ≡ emptyTable maxCapacity → r ≡ toldOf (runOf e bs) → w ≡ runOf e bs .state →
       p ≡ screenBytes (outcomeOf r w) ++ drop (length (screenBytes (outcomeOf r w))) o →
       (0 ≡ screenRefusal bs o) × (p ≡ screenLeaves bs o)
   unfolding screenRefusal screenLeaves tapeRefusal orElse unless
@@ -47,7 +47,7 @@ emptyPlayable n bs h l = record { table = zerosWithin n h; short = l }
 -- a run on it leaves a table within the capacity
 pub screenReady :
     (n : ℕ) (bs o : List ℕ) (w : Table) → n ≤ maxCapacity → screenRoom ≤ length o →
-    w ≡ runOf (replicate (wordsPerDart * n) 0) bs .table → ScreenRoom w o
+    w ≡ runOf (replicate (wordsPerDart * n) 0) bs .state → ScreenRoom w o
 screenReady n bs o w h l e =
     let k = zerosWithin n h in
     let s = runKeepsHypermapLaw (replicate (wordsPerDart * n) 0) bs (k .hypermap) in

@@ -13,7 +13,8 @@ use Rattle.table.specs.Refusals.{wrongSize, shortRoom, unless}
 use Rattle.table.specs.Layout.{Table}
 use Rattle.table.proofs.Stages.{refusedFirst, refusedSecond}
 use Rattle.tape.specs.Tapes.{contentsOf}
-use Rattle.tape.specs.Runs.{Outcome, stopped, runOf, toldOf}
+use Rattle.table.specs.Runs.{Outcome, stopped}
+use Rattle.tape.specs.Runs.{runOf, toldOf}
 use Rattle.needs.specs.Amounts.{refusedNeeds, neededBy}
 use Rattle.writer.specs.Canonical.{tapeOf}
 use Rattle.writer.specs.Inner.{writtenOf, writtenLeaves}
@@ -35,11 +36,11 @@ unfolding tapeRefusal unless
 tapeShort bs l = rw (le-leb (length bs) maxTape l)
 
 -- A RUN
-abbrev Answers : (w : Table) (bs : List ℕ) → Outcome → Type 0
-Answers w bs o = (toldOf o ≡ toldOf (playOutcome w bs)) × (o .table ≡ playOutcome w bs .table)
+abbrev Answers : (w : Table) (bs : List ℕ) → Outcome Table → Type 0
+Answers w bs o = (toldOf o ≡ toldOf (playOutcome w bs)) × (o .state ≡ playOutcome w bs .state)
 
-answered : (w : Table) (bs : List ℕ) (o : Outcome) → o ≡ playOutcome w bs → Answers w bs o
-answered w bs o e = (ap toldOf e, ap (λ p. p .table) e)
+answered : (w : Table) (bs : List ℕ) (o : Outcome Table) → o ≡ playOutcome w bs → Answers w bs o
+answered w bs o e = (ap toldOf e, ap (λ p. p .state) e)
 
 stops :
     (w : Table) (bs : List ℕ) (f : ℕ) → f ≡ playRefusal w bs → (f ≡ 0 → ⊥) → Answers w bs (stopped f w)
@@ -67,8 +68,8 @@ module _ (w : Table) (bs : List ℕ) where
     played z = rw (eq-eqb (playRefusal w bs) 0 (sym refusal ∙ z))
 
     pub playRun :
-        f ≡ 0 → (r : Run) (v : Table) → (r ≡ toldOf (runOf w bs)) × (v ≡ runOf w bs .table) →
-        (r ≡ toldOf (playOutcome w bs)) × (v ≡ playOutcome w bs .table)
+        f ≡ 0 → (r : Run) (v : Table) → (r ≡ toldOf (runOf w bs)) × (v ≡ runOf w bs .state) →
+        (r ≡ toldOf (playOutcome w bs)) × (v ≡ playOutcome w bs .state)
     playRun z r v p = rw (played z) p
 
 -- THE NEEDS

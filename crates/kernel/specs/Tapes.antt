@@ -9,7 +9,8 @@ use Rattle.table.specs.Refusals.{wrongSize, shortRoom, orElse, unless}
 use Rattle.table.specs.Limits.{wordsPerDart, maxCapacity, maxTape, screenRoom}
 use Rattle.table.specs.Layout.{Table}
 use Rattle.tape.specs.Tapes.{contentsOf}
-use Rattle.tape.specs.Runs.{Outcome, stopped, runOf}
+use Rattle.table.specs.Runs.{Outcome, stopped}
+use Rattle.tape.specs.Runs.{runOf}
 use Rattle.writer.specs.Canonical.{tapeOf}
 use Rattle.writer.specs.Screens.{screenBytes}
 use Rattle.needs.specs.Amounts.{refusedNeeds, neededBy}
@@ -26,7 +27,7 @@ unfoldable pub playRefusal : Table → (tape : List ℕ) → ℕ
 playRefusal w bs = orElse (tapeRefusal bs) (tableRefusal w)
 
 -- a call that is refused has accepted nothing; else the run, whose accepted commands stay also where it is stopped
-unfoldable pub playOutcome : Table → (tape : List ℕ) → Outcome
+unfoldable pub playOutcome : Table → (tape : List ℕ) → Outcome Table
 playOutcome w bs = cond (eqb (playRefusal w bs) 0) (runOf w bs) (stopped (playRefusal w bs) w)
 
 -- WRITING the canonical tape into a lent buffer; the count is its bytes

@@ -238,7 +238,7 @@ pub fn look<'a>(table: &'a [u16], x: u32) -> &'a [u16]
 // Plays a tape command by command. The first refused one stops the run, and the effect of those before it stays.
 pub fn play(table: &mut [u16], tape: &[u8]) -> Run
     ensures { λ r. ⌜ r ≡ toldOf (playOutcome (now (table .entry)) (now (tape .entry))) ⌝ }
-    ensures table { λ r. ⌜ now (table .exit) ≡ playOutcome (now (table .entry)) (now (tape .entry)) .table ⌝ }
+    ensures table { λ r. ⌜ now (table .exit) ≡ playOutcome (now (table .entry)) (now (tape .entry)) .state ⌝ }
 {
     if MAX_TAPE < tape.len() {
         return Run {

@@ -12,12 +12,12 @@ use Rattle.hypermap.proofs.Basics.Bools.{byCases, andRight, andTrue}
 use Rattle.hypermap.proofs.Basics.Lists.{Mem, memHead, memTail, memNil, memCases, allMem}
 use Rattle.table.specs.Layout.{Table, capacity, isPresent, holdsHypermap}
 use Rattle.table.specs.Commands.{puts, takesOut, joins, cuts}
+use Rattle.table.specs.Runs.{AllAccepted}
 use Rattle.table.proofs.Holding.{high}
 use Rattle.table.proofs.Stages.{passed, allPresent}
 use Rattle.table.proofs.Accepting.{putPassed}
 use Rattle.rings.proofs.Conditions.{acceptedList}
-use Rattle.tape.specs.Steps.{TapeCommand, changes, reports, cutsRing, stepRefusal, stepOn}
-use Rattle.tape.specs.Laws.{AllAccepted}
+use Rattle.tape.specs.Steps.{TapeCommand, changes, reports, cutsRing, stepRefusal, stepOn, stepRule}
 use Rattle.tape.proofs.Running.{stepHolds}
 use Rattle.needs.specs.Amounts.{namedBy, namedIn, greatest}
 use Rattle.needs.specs.Laws.{CapacityLaw, AcceptedCapacityLaw}
@@ -63,7 +63,7 @@ namedBelow w reports e = omega arith
 namedBelow w (cutsRing ws) e = presentBelow w ws (acceptedList w ws e .darts)
 
 accepted :
-    (cs : List TapeCommand) (w : Table) → holdsHypermap w ≡ true → AllAccepted w cs → greatest (namedIn cs) ≤ capacity w
+    (cs : List TapeCommand) (w : Table) → holdsHypermap w ≡ true → AllAccepted stepRule w cs → greatest (namedIn cs) ≤ capacity w
 unfolding namedIn greatest
 accepted [] w s a = omega arith
 accepted (c ∷ cs) w s a =

@@ -17,6 +17,7 @@ use Rattle.hypermap.proofs.Basics.Sums.{keptNone}
 use Rattle.hypermap.proofs.Laws.Jordan.{breakDarts}
 use Rattle.table.specs.Layout.{Table, numbers, isPresent, holdsHypermap, hypermapOf}
 use Rattle.table.specs.Commands.{withAll, swapped, puts, takesOut, joins, cuts}
+use Rattle.table.specs.Runs.{AllAccepted}
 use Rattle.table.proofs.Numbers.{numbersRising}
 use Rattle.table.proofs.Zeros.{zerosNone}
 use Rattle.table.proofs.Holding.{low, high, firstWord, presentFrom, memPresent}
@@ -25,8 +26,7 @@ use Rattle.table.proofs.Swaps.{swapLaw}
 use Rattle.table.proofs.Commands.{allLength, here, presentElsewhere}
 use Rattle.rings.specs.Rings.{linksOf}
 use Rattle.rings.proofs.Parting.{acceptedCut}
-use Rattle.tape.specs.Steps.{TapeCommand, changes, reports, cutsRing, stepRefusal, stepOn}
-use Rattle.tape.specs.Laws.{AllAccepted}
+use Rattle.tape.specs.Steps.{TapeCommand, changes, reports, cutsRing, stepRefusal, stepOn, stepRule}
 use Rattle.tape.proofs.Running.{stepHolds}
 use Rattle.needs.specs.Amounts.{larger, putsBy, takeOutsBy, peakOf, total}
 use Rattle.needs.specs.Laws.{IsPeak, PeakLaw, dartsIn, mostDarts, MostDartsLaw}
@@ -142,7 +142,7 @@ step w (cutsRing ws) p s e =
     omega (arith, largerIs (dartsIn w) (dartsIn (stepOn w (cutsRing ws)) + p), ringDarts w ws s e)
 
 most :
-    (cs : List TapeCommand) (w : Table) → holdsHypermap w ≡ true → AllAccepted w cs →
+    (cs : List TapeCommand) (w : Table) → holdsHypermap w ≡ true → AllAccepted stepRule w cs →
     mostDarts w cs ≡ dartsIn w + peakOf cs
 unfolding mostDarts peakOf
 most [] w s a = omega arith

@@ -13,9 +13,9 @@ use Rattle.hypermap.specs.Ring.{DoubleLink}
 use Rattle.table.specs.Limits.{wordsPerChange}
 use Rattle.table.specs.Layout.{Table, capacity, upFrom, isNumber, holdsHypermap, hypermapOf}
 use Rattle.table.specs.Commands.{commandOn, swapped}
+use Rattle.table.specs.Runs.{AllAccepted}
 use Rattle.rings.specs.Rings.{linksOf}
-use Rattle.tape.specs.Steps.{TapeCommand, changes, reports, cutsRing, stepOn}
-use Rattle.tape.specs.Laws.{AllAccepted}
+use Rattle.tape.specs.Steps.{TapeCommand, changes, reports, cutsRing, stepOn, stepRule}
 use Rattle.needs.specs.Amounts.{namedIn, larger, greatest, putsBy, takeOutsBy, peakOf, changesBy, total}
 
 -- THE LEAST CAPACITY: "at which no nonzero tab number is off the table"
@@ -28,7 +28,7 @@ CapacityLaw = (w : Table) (cs : List TapeCommand) → NoneOff w cs ↔ (greatest
 -- so commands that are all accepted need no more than there is
 abbrev pub AcceptedCapacityLaw : Type 0
 AcceptedCapacityLaw =
-    (w : Table) (cs : List TapeCommand) → holdsHypermap w ≡ true → AllAccepted w cs → greatest (namedIn cs) ≤ capacity w
+    (w : Table) (cs : List TapeCommand) → holdsHypermap w ≡ true → AllAccepted stepRule w cs → greatest (namedIn cs) ≤ capacity w
 
 -- THE PEAK: "the highest of puts less take-outs over all beginnings of the tape, at least 0"
 pub record IsPeak (cs : List TapeCommand) (p : ℕ) : Type 0 where
@@ -49,7 +49,7 @@ mostDarts w (c ∷ cs) = larger (dartsIn w) (mostDarts (stepOn w c) cs)
 
 abbrev pub MostDartsLaw : Type 0
 MostDartsLaw =
-    (w : Table) (cs : List TapeCommand) → holdsHypermap w ≡ true → AllAccepted w cs →
+    (w : Table) (cs : List TapeCommand) → holdsHypermap w ≡ true → AllAccepted stepRule w cs →
     mostDarts w cs ≡ dartsIn w + peakOf cs
 
 -- WORDS: "the words changed, counted command by command and crossing by crossing". The places where two tables differ
@@ -73,5 +73,5 @@ changedOn w (c ∷ cs) = changedBy w c + changedOn (stepOn w c) cs
 
 abbrev pub WordsLaw : Type 0
 WordsLaw =
-    (w : Table) (cs : List TapeCommand) → holdsHypermap w ≡ true → AllAccepted w cs →
+    (w : Table) (cs : List TapeCommand) → holdsHypermap w ≡ true → AllAccepted stepRule w cs →
     changedOn w cs ≡ wordsPerChange * total changesBy cs

@@ -12,7 +12,7 @@ use borrow.Rule.Slice.PartAt.{part-to-end}
 use Rattle.hypermap.proofs.Basics.Bools.{clash}
 use Rattle.table.specs.Layout.{Table}
 use Rattle.table.specs.Commands.{leaves}
-use Rattle.tape.specs.Steps.{stepRefusal, stepOn, stepLeaves}
+use Rattle.tape.specs.Steps.{stepRefusal, stepOn, stepRule, stepLeaves}
 use Rattle.tape.specs.Tapes.{sizeOf, commandOf, readRefusal, restOf}
 use Rattle.tape.specs.Runs.{runOf}
 use Rattle.tape.specs.Inner.{meaning, refusalIn, Reads}
@@ -54,7 +54,7 @@ pub record Stretching (w₀ : Table) (tape old : List ℕ) (w : Table) (rest out
   pub lays : Lays 0 text old out at
   pub fits : at ≤ length old
   pub lines : linesOf w₀ tape ≡ text ++ linesOf w rest
-  pub table : runOf w₀ tape .table ≡ runOf w rest .table
+  pub table : runOf w₀ tape .state ≡ runOf w rest .state
   pub short : length rest ≤ length tape
   pub part : drop (length tape - length rest) tape ≡ rest
   pub moved : 0 < at → length rest < length tape
@@ -85,7 +85,7 @@ module _
     lines = rw (front (s .lays) (s .fits)) (s .lines ∙ ap (λ l. s .text ++ l) (linesNone w rest e));
     kept = back (s .lays) (s .fits);
     fits = inBuffer (s .lays) (s .fits);
-    table = s .table ∙ ap (λ o. o .table) (runNone w rest e);
+    table = s .table ∙ ap (λ o. o .state) (runNone stepRule w rest e);
     within = s .ready .table;
     size = s .size;
     more = λ z. clash refl z;
@@ -112,7 +112,7 @@ module _
   module _ (h : at ≤ full) where
     -- A REFUSAL: the last line
     refusedBy :
-        (n : ℕ) → linesOf w rest ≡ refusedLine n → runOf w rest .table ≡ w → {p : List ℕ} {m : ℕ} →
+        (n : ℕ) → linesOf w rest ≡ refusedLine n → runOf w rest .state ≡ w → {p : List ℕ} {m : ℕ} →
         Lays at (refusedLine n) out p m →
         IsStretch w₀ tape old w p (record { written = m; read = 0; ended = true })
     refusedBy n e t {p} {m} l =
@@ -141,7 +141,7 @@ module _
           let g : m ≡ readRefusal rest = rw (b, q .0) at e in
           let d : readRefusal rest ≡ 0 → ⊥ = λ z. q .1 (q .0 ∙ z) in
           refusedBy m (linesRefused w rest some d ∙ ap refusedLine (sym g))
-          (ap (λ o. o .table) (runRefused w rest some d)) l
+          (ap (λ o. o .state) (runRefused stepRule w rest some d)) l
 
       -- the instruction i of n bytes, whose command has the refusal f and leaves v
       module _
@@ -169,7 +169,7 @@ module _
             let c : stepRefusal w (commandOf rest) ≡ 0 → ⊥ = λ z. d (g ∙ z) in
             rw u
             (refusedBy f (linesStopped w rest some (read .0) c ∙ ap refusedLine (sym g))
-            (ap (λ o. o .table) (runStopped w rest some (read .0) c)) q)
+            (ap (λ o. o .state) (runStopped stepRule w rest some (read .0) c)) q)
 
         module _ (z : f ≡ 0) where
           accepted : stepRefusal w (commandOf rest) ≡ 0
@@ -206,7 +206,7 @@ module _
                 lines =
                     s .lines ∙ ap (λ t. s .text ++ t) (linesOn w rest some (read .0) accepted) ∙
                     rw (line, stepped) (sym (append-assoc (s .text) _ _));
-                table = s .table ∙ ap (λ o. o .table) (runOn w rest some (read .0) accepted) ∙ rw stepped;
+                table = s .table ∙ ap (λ o. o .state) (runOn stepRule w rest some (read .0) accepted) ∙ rw stepped;
                 short = omega (arith, s .short);
                 part = restPart;
                 moved = λ t. omega (arith, s .short);

@@ -40,7 +40,7 @@ pub record IsStretch (w : Table) (tape old : List ℕ) (v : Table) (out : List �
   pub lines : linesOf w tape ≡ take (s .written) out ++ cond (s .ended) [] (linesOf v (drop (s .read) tape))
   pub kept : drop (s .written) out ≡ drop (s .written) old
   pub fits : s .written ≤ length out
-  pub table : runOf w tape .table ≡ cond (s .ended) v (runOf v (drop (s .read) tape) .table)
+  pub table : runOf w tape .state ≡ cond (s .ended) v (runOf v (drop (s .read) tape) .state)
   pub within : WithinCapacity v
   pub size : length v ≡ length w
   -- a stretch that does not end the run has read something; of one that does, 0 is told

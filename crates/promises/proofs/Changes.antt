@@ -165,9 +165,9 @@ module _ (w : Table) (t : tableRefusal w ≡ 0) where
       let c = acceptedCut w ws (tablePassed w t .hypermap) (ringPassed w ws e .1) in
       changed (cutAlong (linksOf ws) w) (c .hypermap, c .size))
 
-  pub runStays : (tape : List ℕ) → StaysSound w (playOutcome w tape .table)
+  pub runStays : (tape : List ℕ) → StaysSound w (playOutcome w tape .state)
   unfolding playOutcome
   runStays tape =
       byCases (eqb (playRefusal w tape) 0)
-      (λ e. rw e (changed (runOf w tape .table) (runKeepsHypermapLaw w tape (tablePassed w t .hypermap))))
+      (λ e. rw e (changed (runOf w tape .state) (runKeepsHypermapLaw w tape (tablePassed w t .hypermap))))
       (λ e. rw e unchanged)

@@ -16,14 +16,14 @@ use Rattle.table.specs.Refusals.{shortRoom}
 use Rattle.table.specs.Limits.{wordsPerDart}
 use Rattle.table.specs.Layout.{Table}
 use Rattle.table.specs.Commands.{commandOn, leaves}
+use Rattle.table.specs.Runs.{stopped, IsRun}
 use Rattle.table.proofs.Stages.{refused}
+use Rattle.table.proofs.Runs.{runLaw}
 use Rattle.table.proofs.Holding.{low, high}
 use Rattle.parts.specs.declared.Part.the-variants.{Edge}
 use Rattle.rings.specs.Rings.{linksOf, cutAlong}
+use Rattle.tape.specs.Steps.{TapeCommand, stepRule}
 use Rattle.tape.specs.Tapes.{contentsOf}
-use Rattle.tape.specs.Runs.{stopped}
-use Rattle.tape.specs.Laws.{IsRun}
-use Rattle.tape.proofs.Running.{runLaw}
 use Rattle.kernel.specs.Calls.{callRefusal, callLeaves, ringCallRefusal, ringCallLeaves, reportOn}
 use Rattle.kernel.specs.Calls.{questionRefusal, answer, sameAnswer, listRefusal, listLeaves}
 use Rattle.kernel.specs.Calls.{listAnswer, lookOf}
@@ -82,11 +82,12 @@ look w x =
 played :
     (w : Table) (tape : List ℕ) →
     ((playRefusal w tape ≡ 0 → ⊥) → playOutcome w tape ≡ stopped (playRefusal w tape) w) ×
-    (playRefusal w tape ≡ 0 → IsRun w (contentsOf tape .commands) (contentsOf tape .refusal) (playOutcome w tape))
+    (playRefusal w tape ≡ 0 →
+    IsRun stepRule w (contentsOf tape .commands) (contentsOf tape .refusal) (playOutcome w tape))
 unfolding playOutcome
 played w tape = (
   λ z. rw (ne-eqb (playRefusal w tape) 0 z),
-  λ e. rw (playRan w tape e) (runLaw w (contentsOf tape .commands) (contentsOf tape .refusal)),
+  λ e. rw (playRan w tape e) (runLaw Table TapeCommand stepRule w (contentsOf tape .commands) (contentsOf tape .refusal)),
 )
 
 -- DEMAND 1, whole

@@ -12,10 +12,10 @@ use Rattle.table.specs.Refusals.{wrongSize, bentTable, offTheTable, noTab, unkn
 use Rattle.table.specs.Refusals.{orElse, unless}
 use Rattle.table.specs.Layout.{Table}
 use Rattle.table.specs.Commands.{Command, puts, takesOut, joins, cuts, presenceRefusal, commandRefusal}
+use Rattle.table.specs.Runs.{Rule, runBy}
 use Rattle.rings.specs.Rings.{conditionRefusal, ringRefusal}
-use Rattle.tape.specs.Steps.{TapeCommand, changes, reports, cutsRing, stepRefusal, stepOn}
+use Rattle.tape.specs.Steps.{TapeCommand, changes, reports, cutsRing, stepRefusal, stepRule}
 use Rattle.tape.specs.Tapes.{readRefusal, restOf, contentsBy}
-use Rattle.tape.specs.Runs.{runOver}
 use Rattle.soundness.specs.Soundness.{tableRefusal}
 use Rattle.kernel.specs.Calls.{callRefusal, ringCallRefusal}
 use Rattle.kernel.specs.Tapes.{tapeRefusal, playRefusal, playOutcome}
@@ -111,15 +111,17 @@ contentsOne (suc n) (b ∷ bs) =
     byCases (eqb (readRefusal (b ∷ bs)) 0) (λ t. rw t (contentsOne n (restOf (b ∷ bs))))
     (λ t. rw t (orElseOne (unlessOne _ _ refl) (unlessOne _ _ refl)))
 
-foldOne : (w : Table) (cs : List TapeCommand) (n : ℕ) → One n runRefusals → One (runOver w cs n .number) runRefusals
-unfolding runOver
-foldOne w [] n f = f
-foldOne w (c ∷ cs) n f =
-    byCases (eqb (stepRefusal w c) 0) (λ t. rw t (foldOne (stepOn w c) cs n f)) (λ t. rw t (stepOne w c))
+pub foldOne :
+    {S C : Type 0} (r : Rule S C) {ns : List ℕ} → ((s : S) (c : C) → One (r .refusal s c) ns) → (s : S) (cs : List C)
+    (n : ℕ) → One n ns → One (runBy r s cs n .number) ns
+unfolding runBy
+foldOne r one s [] n f = f
+foldOne r one s (c ∷ cs) n f =
+    byCases (eqb (r .refusal s c) 0) (λ t. rw t (foldOne r one (r .on s c) cs n f)) (λ t. rw t (one s c))
 
 pub runOne : (w : Table) (tape : List ℕ) → One (playOutcome w tape .number) runRefusals
 unfolding playOutcome among all
 runOne w tape =
     byCases (eqb (playRefusal w tape) 0)
-    (λ t. rw t (foldOne w _ _ (widen runRefusals refl (contentsOne (length tape) tape))))
+    (λ t. rw t (foldOne stepRule stepOne w _ _ (widen runRefusals refl (contentsOne (length tape) tape))))
     (λ t. rw t (widen runRefusals refl (playOne w tape)))

@@ -13,12 +13,12 @@ use Rattle.hypermap.proofs.Basics.Bools.{byCases}
 use Rattle.table.specs.Refusals.{wrongSize, unknownCommand, tornCommand}
 use Rattle.table.specs.Limits.{wordsPerDart, maxTape}
 use Rattle.table.specs.Layout.{Table, capacity, holdsHypermap}
+use Rattle.table.specs.Runs.{AllAccepted}
 use Rattle.table.proofs.Stages.{passed}
-use Rattle.tape.specs.Steps.{TapeCommand}
+use Rattle.tape.specs.Steps.{TapeCommand, stepRule}
 use Rattle.tape.specs.Tapes.{Contents, contentsOf}
 use Rattle.tape.specs.Runs.{runOf}
-use Rattle.tape.specs.Laws.{AllAccepted}
-use Rattle.tape.proofs.Running.{unstopped}
+use Rattle.table.proofs.Runs.{unstopped}
 use Rattle.needs.specs.Amounts.{refusedNeeds, needsOf, neededBy}
 use Rattle.needs.specs.declared.Needs.{Needs}
 use Rattle.needs.proofs.Capacities.{capacityLaw, acceptedCapacityLaw}
@@ -96,8 +96,8 @@ module _ (bs : List ℕ) where
     abbrev cs : List TapeCommand
     cs = contentsOf bs .commands
 
-    whole : AllAccepted w cs × (contentsOf bs .refusal ≡ 0) × (runOf w bs .accepted ≡ length cs)
-    whole = unstopped cs w (contentsOf bs .refusal) (rw ran at e)
+    whole : AllAccepted stepRule w cs × (contentsOf bs .refusal ≡ 0) × (runOf w bs .accepted ≡ length cs)
+    whole = unstopped stepRule cs w (contentsOf bs .refusal) (rw ran at e)
 
     foretold : needsAnswer bs ≡ needsOf cs
     unfolding needsAnswer neededBy

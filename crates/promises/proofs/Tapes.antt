@@ -15,7 +15,7 @@ use Rattle.table.proofs.Stages.{passed}
 use Rattle.table.proofs.Zeros.{zerosHold}
 use Rattle.soundness.specs.Soundness.{sizeFits, tableRefusal}
 use Rattle.soundness.proofs.Passing.{tablePassed, tableFits, wholeWords, holdsSound}
-use Rattle.tape.specs.Runs.{Outcome}
+use Rattle.table.specs.Runs.{Outcome}
 use Rattle.writer.specs.Canonical.{tapeOf}
 use Rattle.writer.specs.Screens.{numbersBytes, screenBytes}
 use Rattle.writer.specs.Laws.{IsBuilt}
@@ -63,11 +63,11 @@ onlyTape v w e f l t =
     onlyTapeLaw v w (p .hypermap) (tablePassed w f .hypermap) (wholeWords v (p .size)) l t
 
 -- THE SCREEN
-reported : (o : Outcome) → tableRefusal (o .table) ≡ 0 → screenBytes o ≡ reportedBytes o
+reported : (o : Outcome Table) → tableRefusal (o .state) ≡ 0 → screenBytes o ≡ reportedBytes o
 unfolding screenBytes
 reported o t =
-    ap (λ r. numbersBytes (o .number ∷ o .accepted ∷ reportNumbers r) ++ tapeOf (o .table))
-    (givenReport (tableRefusal (o .table)) (hypermapOf (o .table)) 0 _ (sym t) refl refl)
+    ap (λ r. numbersBytes (o .number ∷ o .accepted ∷ reportNumbers r) ++ tapeOf (o .state))
+    (givenReport (tableRefusal (o .state)) (hypermapOf (o .state)) 0 _ (sym t) refl refl)
 
 pub screen : (tape out : List ℕ) → screenRefusal tape out ≡ 0 → IsScreened tape out
 unfolding screenLeaves screenRefusal

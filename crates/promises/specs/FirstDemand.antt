@@ -9,12 +9,12 @@ use Rattle.table.specs.Refusals.{wrongSize, bentTable, offTheTable, noTab, tabT
 use Rattle.table.specs.Refusals.{noList, tieTwice, gapTwice, pathBroken, shortRoom, unknownCommand, tornCommand}
 use Rattle.table.specs.Layout.{Table}
 use Rattle.table.specs.Commands.{Command, puts, takesOut, joins, cuts}
+use Rattle.table.specs.Runs.{stopped, IsRun}
 use Rattle.table.specs.declared.Orbit.{Orbit}
 use Rattle.parts.specs.declared.Part.{Part}
 use Rattle.parts.specs.declared.Part.the-variants.{Edge}
+use Rattle.tape.specs.Steps.{stepRule}
 use Rattle.tape.specs.Tapes.{contentsOf}
-use Rattle.tape.specs.Runs.{stopped}
-use Rattle.tape.specs.Laws.{IsRun}
 use Rattle.kernel.specs.Calls.{callRefusal, callLeaves, reportOf, refusedTotals}
 use Rattle.kernel.specs.Calls.{ringCallRefusal, ringCallLeaves, componentReportOf, refusedAnswer, sameAnswer}
 use Rattle.kernel.specs.Calls.{roundAnswer, roundLeaves, marksAnswer, marksLeaves, lookOf}
@@ -85,7 +85,8 @@ pub record FirstDemand : Type 0 where
   pub played :
       (w : Table) (tape : List ℕ) →
       ((playRefusal w tape ≡ 0 → ⊥) → playOutcome w tape ≡ stopped (playRefusal w tape) w) ×
-      (playRefusal w tape ≡ 0 → IsRun w (contentsOf tape .commands) (contentsOf tape .refusal) (playOutcome w tape))
+      (playRefusal w tape ≡ 0 →
+      IsRun stepRule w (contentsOf tape .commands) (contentsOf tape .refusal) (playOutcome w tape))
   pub tapes :
       (w : Table) (out : List ℕ) → RefusesAnswer (tapeAnswer w out) (tableRefusals ++ (shortRoom ∷ [])) ×
       ((tapeAnswer w out .number ≡ 0 → ⊥) → tapeLeaves w out ≡ out)

@@ -24,7 +24,7 @@ use Rattle.parts.specs.declared.Part.the-variants.{Edge, Vertex, Face, Componen
 use Rattle.soundness.specs.Soundness.{sizeFits, tableRefusal}
 use Rattle.rings.specs.Rings.{linksOf, isList}
 use Rattle.rings.specs.Laws.{isRingOf}
-use Rattle.tape.specs.Runs.{Outcome}
+use Rattle.table.specs.Runs.{Outcome}
 use Rattle.writer.specs.Canonical.{tapeOf}
 use Rattle.writer.specs.Screens.{numbersBytes}
 use Rattle.writer.specs.Laws.{IsBuilt}
@@ -105,14 +105,14 @@ pub record AreMarks (w : Table) (out : List ℕ) : Type 0 where
 
 -- THE SCREEN: the run that `play` makes on an empty table of the greatest capacity; then its two numbers, the report of
 -- its table, and that table's canonical tape
-abbrev pub screenRun : (tape : List ℕ) → Outcome
+abbrev pub screenRun : (tape : List ℕ) → Outcome Table
 screenRun bs = playOutcome (emptyTable maxCapacity) bs
 
-abbrev pub reportedBytes : Outcome → List ℕ
-reportedBytes o = numbersBytes (o .number ∷ o .accepted ∷ reportNumbers (reportOf (o .table))) ++ tapeOf (o .table)
+abbrev pub reportedBytes : Outcome Table → List ℕ
+reportedBytes o = numbersBytes (o .number ∷ o .accepted ∷ reportNumbers (reportOf (o .state))) ++ tapeOf (o .state)
 
 pub record IsScreened (tape out : List ℕ) : Type 0 where
-  pub sound : tableRefusal (screenRun tape .table) ≡ 0
+  pub sound : tableRefusal (screenRun tape .state) ≡ 0
   pub written :
       screenLeaves tape out ≡ reportedBytes (screenRun tape) ++ drop (length (reportedBytes (screenRun tape))) out
 
@@ -143,7 +143,7 @@ pub record SecondDemand : Type 0 where
   -- a sound plan stays sound, whether the call is accepted or refused
   pub commandStays : (w : Table) (c : Command) → tableRefusal w ≡ 0 → StaysSound w (callLeaves w c)
   pub ringStays : (w : Table) (ring : List ℕ) → tableRefusal w ≡ 0 → StaysSound w (ringCallLeaves w ring)
-  pub runStays : (w : Table) (tape : List ℕ) → tableRefusal w ≡ 0 → StaysSound w (playOutcome w tape .table)
+  pub runStays : (w : Table) (tape : List ℕ) → tableRefusal w ≡ 0 → StaysSound w (playOutcome w tape .state)
   pub same :
       (w : Table) (p : Part) (a b : ℕ) → sameAnswer w p a b .number ≡ 0 →
       (sameAnswer w p a b .yes ≡ true) ↔ Shares (hypermapOf w) p a b

@@ -14,10 +14,10 @@ use Rattle.hypermap.proofs.Hypermaps.Alike.{Agrees, answersAgree, partedAgrees}
 use Rattle.hypermap.proofs.Laws.Breaks.{standsAfter}
 use Rattle.hypermap.proofs.Laws.Jordan.{breakDarts, jordanTheorem, planarJordanTheorem}
 use Rattle.table.specs.Layout.{Table, holdsHypermap, hypermapOf}
-use Rattle.table.proofs.Holding.{tableHypermap}
+use Rattle.table.proofs.Holding.{tableHypermap, holdsAgrees}
 use Rattle.rings.specs.Rings.{linksOf, ringRefusal, cutAlong}
 use Rattle.rings.specs.Laws.{isRingOf, IsCut, areDarts, PartingLaw, PlanarPartingLaw}
-use Rattle.rings.proofs.Cuts.{holdsAgrees, cutLaw}
+use Rattle.rings.proofs.Cuts.{cutLaw}
 use Rattle.rings.proofs.Conditions.{ringTo, conditionsLaw}
 
 doubleDarts : (m : Hypermap) (ls : List DoubleLink) → allLinks (isDoubleLink m) ls ≡ true → areDarts m ls ≡ true

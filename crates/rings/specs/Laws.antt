@@ -9,8 +9,9 @@ use Rattle.hypermap.specs.Hypermap.{Hypermap, isDart, isPlanar, componentAt}
 use Rattle.hypermap.specs.Ring.{DoubleLink, allLinks, isRing, pairsDiffer, breakAlong}
 use Rattle.hypermap.specs.RingLaws.{IsParted}
 use Rattle.table.specs.Layout.{Table, holdsHypermap, hypermapOf}
+use Rattle.table.specs.Runs.{commandRule, afterAll, AllAccepted}
 use Rattle.table.specs.Laws.{Holds}
-use Rattle.rings.specs.Rings.{linksOf, isList, ringRefusal, cutAlong}
+use Rattle.rings.specs.Rings.{linksOf, isList, ringRefusal, cutAlong, cutsOf}
 
 -- a ring by 2.7 whose pairs differ; no list of no double-links is one
 unfoldable pub isRingOf : Hypermap → List DoubleLink → Bool
@@ -35,6 +36,13 @@ areDarts m ls = allLinks (λ l. isDart m (l .first) && isDart m (l .second)) ls
 abbrev pub CutLaw : Type 0
 CutLaw =
     (w : Table) (ls : List DoubleLink) → holdsHypermap w ≡ true → areDarts (hypermapOf w) ls ≡ true → IsCut w ls
+
+-- an accepted ring is its edge cuts, each accepted in turn
+abbrev pub RingCutsLaw : Type 0
+RingCutsLaw =
+    (w : Table) (ws : List ℕ) → holdsHypermap w ≡ true → ringRefusal w ws ≡ 0 →
+    AllAccepted commandRule w (cutsOf (linksOf ws)) ×
+    (afterAll commandRule w (cutsOf (linksOf ws)) ≡ cutAlong (linksOf ws) w)
 
 -- Theorem 2.9 for an accepted list: only the ring's own component need be planar
 abbrev pub PartingLaw : Type 0

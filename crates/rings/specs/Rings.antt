@@ -10,7 +10,7 @@ use Rattle.hypermap.specs.Ring.{DoubleLink, allLinks, unicity, continuity, clos
 use Rattle.table.specs.Limits.{maxRing}
 use Rattle.table.specs.Refusals.{noList, apart, sameTab, tieTwice, gapTwice, pathBroken, orElse, unless}
 use Rattle.table.specs.Layout.{Table, hypermapOf}
-use Rattle.table.specs.Commands.{swapped, presenceRefusal, leaves}
+use Rattle.table.specs.Commands.{Command, cuts, swapped, presenceRefusal, leaves}
 
 -- the double-links that a list of words holds; document 01's crossings
 unfoldable pub linksOf : (words : List ℕ) → List DoubleLink
@@ -48,6 +48,11 @@ ringRefusal w ws =
 unfoldable pub cutAlong : List DoubleLink → Table → Table
 cutAlong [] w = w
 cutAlong (l ∷ ls) w = cutAlong ls (swapped edge (l .first) (l .second) w)
+
+-- the same as commands: an edge cut for each double-link
+unfoldable pub cutsOf : List DoubleLink → List Command
+cutsOf [] = []
+cutsOf (l ∷ ls) = cuts edge (l .first) (l .second) ∷ cutsOf ls
 
 unfoldable pub ringLeaves : Table → (words : List ℕ) → Table
 ringLeaves w ws = leaves (ringRefusal w ws) (cutAlong (linksOf ws) w) w

@@ -7,7 +7,7 @@ use crate::rules::ring_refusal;
 use table::Dimension;
 use table::store;
 
-fn cut_along(table: &mut [u16], ring: &[u16])
+pub fn cut_along(table: &mut [u16], ring: &[u16])
     requires { ⌜ Listed (now table) (now ring) ⌝ }
     ensures { λ _. ⌜ now (table .exit) ≡ cutAlong (linksOf (now (ring .entry))) (now (table .entry)) ⌝ }
 {

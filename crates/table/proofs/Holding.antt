@@ -8,15 +8,16 @@ use native.Mathlib.Omega.{arith}
 use lib.ListN.{length}
 use borrow.Author.Tests.{eqb-true, eq-eqb, ltb-true, lt-ltb, leb-true, le-leb}
 use Rattle.hypermap.specs.Lists.{among}
-use Rattle.hypermap.specs.Hypermap.{Dimension, edge, vertex, isHypermap}
+use Rattle.hypermap.specs.Hypermap.{Dimension, edge, vertex, Hypermap, isHypermap}
 use Rattle.hypermap.proofs.Basics.Bools.{byCases, clash, boolExt, orCases, orLeft, orRight, andLeft, andRight}
 use Rattle.hypermap.proofs.Basics.Bools.{andTrue}
 use Rattle.hypermap.proofs.Basics.Lists.{allMem, memAll, keepMem, memKept, keepShorter, risingKeep}
 use Rattle.hypermap.proofs.Hypermaps.Totals.{hypermapOf as hypermapFrom}
 use Rattle.hypermap.proofs.Hypermaps.Totals as Totals
+use Rattle.hypermap.proofs.Hypermaps.Alike.{Agrees}
 use Rattle.table.specs.Layout.{Table, capacity, numbers, wordAt, nextWord, backWord, isPresent}
 use Rattle.table.specs.Layout.{hypermapOf, isAbsent, wordsLinked, dartFits, holdsHypermap}
-use Rattle.table.specs.Laws.{HypermapLaw}
+use Rattle.table.specs.Laws.{HypermapLaw, Holds}
 use Rattle.table.proofs.Numbers.{memNumbers, numbersMem, numbersRising, numbersLength}
 
 -- PRESENT
@@ -131,3 +132,10 @@ hypermapLaw w = (
       }))
       (λ n. inl (emptyOf w x (t .1 x l h n)))),
 )
+
+-- A TABLE HOLDS what its own hypermap agrees with
+pub holdsAgrees : (w : Table) (m : Hypermap) → Holds w m → Agrees m (hypermapOf w)
+holdsAgrees w m h = record { darts = h .darts; next = h .next; back = h .back }
+
+pub agreesHolds : (w : Table) (m : Hypermap) → Agrees m (hypermapOf w) → Holds w m
+agreesHolds w m g = record { darts = g .darts; next = g .next; back = g .back }

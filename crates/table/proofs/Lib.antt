@@ -15,3 +15,5 @@ pub mod Commands
 pub mod Putting
 pub mod OnlyTables
 pub mod Zeros
+pub mod Opposites
+pub mod Runs

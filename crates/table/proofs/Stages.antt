@@ -104,15 +104,15 @@ unfolding all
 bothFit w a b p q = presentFits w (a ∷ b ∷ []) (rw (p, q))
 
 -- WHAT A COMMAND LEAVES
-pub accepted : (n r : ℕ) (v w u : Table) → r ≡ n → r ≡ 0 → u ≡ v → u ≡ leaves n v w
+pub accepted : {S : Type 0} (n r : ℕ) (v w u : S) → r ≡ n → r ≡ 0 → u ≡ v → u ≡ leaves n v w
 unfolding leaves
 accepted n r v w u e z q = rw (eq-eqb n 0 (sym e ∙ z)) q
 
-pub refused : (n r : ℕ) (v w : Table) → r ≡ n → (r ≡ 0 → ⊥) → w ≡ leaves n v w
+pub refused : {S : Type 0} (n r : ℕ) (v w : S) → r ≡ n → (r ≡ 0 → ⊥) → w ≡ leaves n v w
 unfolding leaves
 refused n r v w e z = rw (ne-eqb n 0 (λ q. z (e ∙ q)))
 
 -- a change made by one name of its refusal is made by another
 pub made :
-    (n m r : ℕ) (u v w : Table) → m ≡ n → (r ≡ m) × (u ≡ leaves m v w) → (r ≡ n) × (u ≡ leaves n v w)
+    {S : Type 0} (n m r : ℕ) (u v w : S) → m ≡ n → (r ≡ m) × (u ≡ leaves m v w) → (r ≡ n) × (u ≡ leaves n v w)
 made n m r u v w e p = (p .0 ∙ e, p .1 ∙ ap (λ i. leaves i v w) e)

@@ -2,5 +2,6 @@ pub mod Limits
 pub mod Refusals
 pub mod Layout
 pub mod Commands
+pub mod Runs
 pub mod Laws
 pub mod Inner

@@ -1,4 +1,4 @@
--- The limits of tables, rings and tapes, and the places of a dart's words. Each is named here and nowhere else;
+-- The limits of tables, rings, tapes and journals, and the places of a dart's words. Each is named here and nowhere else;
 -- src/limits.rt has the same names for the code. Assumes nothing: these are definitions.
 use Prim.Native.Nat.{ℕ, _*_, _/_}
 
@@ -59,3 +59,16 @@ longestCanonical = 53238
 
 abbrev pub screenRoom : ℕ
 screenRoom = 53278
+
+-- JOURNALS. The words of an entry, the most entries, a checkpoint that is not set, and how many checkpoints there are
+abbrev pub wordsPerEntry : ℕ
+wordsPerEntry = 3
+
+abbrev pub maxEntries : ℕ
+maxEntries = 4294967294
+
+abbrev pub unset : ℕ
+unset = 4294967295
+
+abbrev pub checkpointCount : ℕ
+checkpointCount = 16

@@ -1,4 +1,4 @@
-// The limits of tables, rings and tapes, and the places of a dart's words. Each is named here and nowhere else;
+// The limits of tables, rings, tapes and journals, and the places of a dart's words. Each is named here and nowhere else;
 // specs/Limits has the same names for the definitions.
 
 // Words of each dart.
@@ -33,3 +33,12 @@ pub const MAX_TAPE: usize = 65536;
 
 // Bytes of the buffer that every answer of the screen fits.
 pub const SCREEN_ROOM: usize = 53278;
+
+// Words of an entry of a journal, the most entries, a checkpoint that is not set, and how many checkpoints there are.
+pub const WORDS_PER_ENTRY: usize = 3;
+
+pub const MAX_ENTRIES: usize = 4294967294;
+
+pub const UNSET: u32 = 4294967295;
+
+pub const CHECKPOINTS: usize = 16;

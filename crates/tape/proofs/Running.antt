@@ -1,69 +1,25 @@
--- A run is a fold of its commands, and after every accepted one the table holds a hypermap. Assumes nothing.
-use mathlib.Core.Path.{_≡_, refl, ap, _∙_}
+-- After every accepted command of a tape the table holds a hypermap. Assumes nothing.
+use mathlib.Core.Path.{_≡_, refl, _∙_}
 use mathlib.Core.Bool.{true}
-use mathlib.Core.List.{List, [], _∷_}
-use Prim.Native.Nat.{ℕ, suc, _*_, _≤_}
+use Prim.Native.Nat.{ℕ, _*_, _≤_}
 use native.Mathlib.Omega.{arith}
 use lib.Dec.{eqb}
 use lib.ListN.{length, replicate, length-replicate}
-use borrow.Author.Tests.{eqb-true, eqb-false}
+use borrow.Author.Tests.{eqb-true}
 use Rattle.hypermap.proofs.Basics.Bools.{byCases}
 use Rattle.table.specs.Limits.{wordsPerDart, maxCapacity}
 use Rattle.table.specs.Layout.{Table, holdsHypermap}
 use Rattle.table.specs.Commands.{leaves}
+use Rattle.table.specs.Inner.{WithinCapacity}
 use Rattle.table.proofs.Zeros.{zerosHold}
 use Rattle.table.proofs.Commands.{keepsHypermapLaw}
-use Rattle.table.specs.Inner.{WithinCapacity}
+use Rattle.table.proofs.Runs.{runKeeps}
 use Rattle.rings.proofs.Parting.{acceptedCut}
-use Rattle.tape.specs.Steps.{TapeCommand, changes, reports, cutsRing, stepRefusal, stepOn, stepLeaves}
+use Rattle.tape.specs.Steps.{TapeCommand, changes, reports, cutsRing, stepRefusal, stepOn, stepRule}
+use Rattle.tape.specs.Steps.{stepLeaves}
 use Rattle.tape.specs.Tapes.{contentsOf}
-use Rattle.tape.specs.Runs.{runOver}
-use Rattle.tape.specs.Laws.{AllAccepted, IsRun, RunLaw, RunKeepsHypermapLaw}
+use Rattle.tape.specs.Laws.{RunKeepsHypermapLaw}
 
--- A FOLD
-run : (cs : List TapeCommand) (w : Table) (n : ℕ) → IsRun w cs n (runOver w cs n)
-unfolding runOver
-run [] w n = record {
-  few = omega arith;
-  accepted = tt;
-  table = refl;
-  stopped = λ c rest e. absurd (let z : 0 ≡ suc (length rest) = cc in omega arith);
-  ended = λ e. refl;
-}
-run (c ∷ cs) w n =
-    byCases (eqb (stepRefusal w c) 0)
-    (λ t. let r = run cs (stepOn w c) n in rw t (record {
-      few = omega arith;
-      accepted = (eqb-true (stepRefusal w c) 0 t, r .accepted);
-      table = r .table;
-      stopped = r .stopped;
-      ended = r .ended;
-    }))
-    (λ f. rw f (record {
-      few = omega arith;
-      accepted = tt;
-      table = refl;
-      stopped = λ d rest e. let q : c ≡ d = cc in (rw q, eqb-false (stepRefusal w c) 0 f);
-      ended = λ e. absurd (let z : 0 ≡ suc (length cs) = cc in omega arith);
-    }))
-
-pub runLaw : RunLaw
-runLaw w cs n = run cs w n
-
--- a run that nothing stops has accepted every command, and its tape is read to the end
-pub unstopped :
-    (cs : List TapeCommand) (w : Table) (n : ℕ) → runOver w cs n .number ≡ 0 →
-    AllAccepted w cs × (n ≡ 0) × (runOver w cs n .accepted ≡ length cs)
-unfolding runOver
-unstopped [] w n e = (tt, e, refl)
-unstopped (c ∷ cs) w n e =
-    byCases (eqb (stepRefusal w c) 0)
-    (λ t.
-    let r = unstopped cs (stepOn w c) n (rw t at e) in
-    rw t ((eqb-true (stepRefusal w c) 0 t, r .0), r .1, ap suc (r .2)))
-    (λ f. absurd (eqb-false (stepRefusal w c) 0 f (rw f at e)))
-
--- SOUND TABLES
 pub stepHolds :
     (w : Table) (c : TapeCommand) → holdsHypermap w ≡ true → stepRefusal w c ≡ 0 →
     (holdsHypermap (stepOn w c) ≡ true) × (length (stepOn w c) ≡ length w)
@@ -88,18 +44,17 @@ pub zerosWithin : (n : ℕ) → n ≤ maxCapacity → WithinCapacity (replicate 
 zerosWithin n h =
     record { hypermap = zerosHold (wordsPerDart * n); room = rw length-replicate (omega arith) }
 
-runHolds :
-    (cs : List TapeCommand) (w : Table) (n : ℕ) → holdsHypermap w ≡ true →
-    (holdsHypermap (runOver w cs n .table) ≡ true) × (length (runOver w cs n .table) ≡ length w)
-unfolding runOver
-runHolds [] w n s = (s, refl)
-runHolds (c ∷ cs) w n s =
-    byCases (eqb (stepRefusal w c) 0)
-    (λ t.
-    let a = stepHolds w c s (eqb-true (stepRefusal w c) 0 t) in
-    let r = runHolds cs (stepOn w c) n (a .0) in
-    rw t (r .0, r .1 ∙ a .1))
-    (λ f. rw f (s, refl))
-
 pub runKeepsHypermapLaw : RunKeepsHypermapLaw
-runKeepsHypermapLaw w tape s = runHolds (contentsOf tape .commands) w (contentsOf tape .refusal) s
+runKeepsHypermapLaw w tape s =
+    runKeeps stepRule (λ v. (holdsHypermap v ≡ true) × (length v ≡ length w))
+    (λ v c h e. let i = stepHolds v c (h .0) e in (i .0, i .1 ∙ h .1)) (contentsOf tape .commands) w _ (s, refl)
+
+-- WHAT A LOOP KEEPS of its table, beside the run: as much room as at first
+pub record Roomy (w₀ w : Table) : Type 0 where
+  pub table : WithinCapacity w
+  pub size : length w ≡ length w₀
+
+pub roomyOn : (w₀ w : Table) (c : TapeCommand) → Roomy w₀ w → stepRefusal w c ≡ 0 → Roomy w₀ (stepOn w c)
+roomyOn w₀ w c h e =
+    let i = stepHolds w c (h .table .hypermap) e in
+    record { table = record { hypermap = i .0; room = rw (i .1) (h .table .room) }; size = i .1 ∙ h .size }

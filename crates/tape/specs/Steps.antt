@@ -3,7 +3,8 @@
 use mathlib.Core.List.{List}
 use Prim.Native.Nat.{ℕ}
 use Rattle.table.specs.Layout.{Table}
-use Rattle.table.specs.Commands.{Command, commandRefusal, commandOn, leaves}
+use Rattle.table.specs.Commands.{Command, commandRefusal, commandOn}
+use Rattle.table.specs.Runs.{Rule, ruleLeaves}
 use Rattle.rings.specs.Rings.{linksOf, ringRefusal, cutAlong}
 
 pub data TapeCommand : Type 0 where
@@ -22,5 +23,8 @@ stepOn w (changes c) = commandOn w c
 stepOn w reports = w
 stepOn w (cutsRing ws) = cutAlong (linksOf ws) w
 
+abbrev pub stepRule : Rule Table TapeCommand
+stepRule = record { refusal = stepRefusal; on = stepOn }
+
 abbrev pub stepLeaves : Table → TapeCommand → Table
-stepLeaves w c = leaves (stepRefusal w c) (stepOn w c) w
+stepLeaves w c = ruleLeaves stepRule w c

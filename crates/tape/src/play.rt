@@ -11,7 +11,7 @@ use crate::step;
 pub fn play(table: &mut [u16], tape: &[u8]) -> Run
     requires { ⌜ Playable (now table) (now tape) ⌝ }
     ensures { λ r. ⌜ r ≡ toldOf (runOf (now (table .entry)) (now (tape .entry))) ⌝ }
-    ensures table { λ r. ⌜ now (table .exit) ≡ runOf (now (table .entry)) (now (tape .entry)) .table ⌝ }
+    ensures table { λ r. ⌜ now (table .exit) ≡ runOf (now (table .entry)) (now (tape .entry)) .state ⌝ }
 {
     let operand_bytes = operands::OPERAND_BYTES;
     let mut rest = tape;

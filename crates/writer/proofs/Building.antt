@@ -6,32 +6,23 @@ use mathlib.Core.List.{List, [], _∷_, _++_, map, map-append}
 use Prim.Native.Nat.{ℕ, _*_, _≤_}
 use native.Mathlib.Omega.{arith}
 use lib.ListN.{length, length-map, replicate}
-use borrow.Author.Tests.{eq-eqb}
 use Rattle.hypermap.specs.Hypermap.{Dimension, edge, vertex, isDart}
 use Rattle.table.specs.Limits.{wordsPerDart}
 use Rattle.table.specs.Layout.{Table, capacity, wordAt, nextWord, backWord, isPresent, holdsHypermap}
 use Rattle.table.specs.Layout.{hypermapOf}
 use Rattle.table.specs.Laws.{Holds}
+use Rattle.table.specs.Runs.{afterAll, AllAccepted}
 use Rattle.table.proofs.Holding.{low, high, memPresent, links, tableHypermap}
 use Rattle.table.proofs.OnlyTables.{tableLaw}
-use Rattle.tape.specs.Steps.{TapeCommand, changes, stepRefusal, stepOn}
-use Rattle.tape.specs.Runs.{runOver, runOf, oneMore}
+use Rattle.table.proofs.Runs.{runWhole, afterBoth, acceptedBoth}
+use Rattle.tape.specs.Steps.{changes, stepRule}
+use Rattle.tape.specs.Runs.{runOf}
 use Rattle.writer.specs.Canonical.{putsOf, joinsOf, commandsOf, tapeOf}
-use Rattle.tape.specs.Laws.{stepsOn, AllAccepted}
 use Rattle.writer.specs.Laws.{IsBuilt, BuildLaw, OnlyTapeLaw}
 use Rattle.writer.proofs.ReadBack.{readBack}
 use Rattle.writer.proofs.Putting.{PutAll, putAll}
-use Rattle.writer.proofs.JoinSteps.{stepsBoth, acceptedBoth, samePresent}
+use Rattle.writer.proofs.JoinSteps.{samePresent}
 use Rattle.writer.proofs.Rejoining.{Unjoined, Rejoined, rejoin}
-
--- RUNS of commands that are all accepted, one list of them after another
-pub runWhole :
-    (w : Table) (cs : List TapeCommand) (n : ℕ) → AllAccepted w cs →
-    runOver w cs n ≡ record { number = n; accepted = length cs; table = stepsOn w cs }
-unfolding runOver
-runWhole w [] n a = refl
-runWhole w (c ∷ cs) n a =
-    rw (eq-eqb (stepRefusal w c) 0 (a .0)) (ap oneMore (runWhole (stepOn w c) cs n (a .1)))
 
 -- TABLES of the same darts and successors: the predecessors are the same too
 module _
@@ -92,20 +83,21 @@ module _ (w v u : Table) (a : PutAll w v) where
 -- THE TAPE
 built :
     (w : Table) → holdsHypermap w ≡ true → length w ≡ wordsPerDart * capacity w →
-    AllAccepted (replicate (length w) 0) (map changes (commandsOf w)) ×
-    (stepsOn (replicate (length w) 0) (map changes (commandsOf w)) ≡ w)
+    AllAccepted stepRule (replicate (length w) 0) (map changes (commandsOf w)) ×
+    (afterAll stepRule (replicate (length w) 0) (map changes (commandsOf w)) ≡ w)
 built w s z =
     let e : Table = replicate (length w) 0 in
     let ps = map changes (putsOf (hypermapOf w)) in
     let es = map changes (joinsOf (hypermapOf w) edge) in
     let vs = map changes (joinsOf (hypermapOf w) vertex) in
-    let v = stepsOn e ps in
-    let u = stepsOn v es in
+    let v = afterAll stepRule e ps in
+    let u = afterAll stepRule v es in
     let p = putAll w in
     let i = rejoin w v edge s (edgesUnjoined w v u (p .1)) in
     let j = rejoin w u vertex s (verticesUnjoined w v u (p .1) (i .1)) in
-    simp (map-append changes, stepsBoth) (
-      acceptedBoth e (ps ++ es) vs (acceptedBoth e ps es (p .0) (i .0)) (rw (stepsBoth e ps es) (j .0)),
+    simp (map-append changes, afterBoth) (
+      acceptedBoth stepRule e (ps ++ es) vs (acceptedBoth stepRule e ps es (p .0) (i .0))
+          (rw (afterBoth stepRule e ps es) (j .0)),
       bothRejoined w v u (p .1) (i .1) _ (j .1) s z,
     )
 
@@ -113,7 +105,7 @@ pub buildLaw : BuildLaw
 unfolding tapeOf
 buildLaw w s z =
     let b = built w s z in
-    rw (readBack (commandsOf w), runWhole _ _ 0 (b .0))
+    rw (readBack (commandsOf w), runWhole stepRule _ _ 0 (b .0))
     (record { whole = refl; all = length-map (commandsOf w) changes; same = b .1 })
 
 pub onlyTapeLaw : OnlyTapeLaw

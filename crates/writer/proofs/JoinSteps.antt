@@ -16,22 +16,12 @@ use Rattle.hypermap.proofs.Laws.Orbits.{orbitLaw}
 use Rattle.hypermap.proofs.Laws.Changes.{changeLaw}
 use Rattle.table.specs.Layout.{Table, wordAt, nextWord, isPresent, hypermapOf, holdsHypermap}
 use Rattle.table.specs.Commands.{joins, swapped, isTogether, commandRefusal}
+use Rattle.table.specs.Runs.{afterAll, AllAccepted}
 use Rattle.table.proofs.Holding.{memPresent, tableHypermap}
 use Rattle.table.proofs.Accepting.{joinFits}
 use Rattle.table.proofs.Swaps.{swapLaw}
-use Rattle.tape.specs.Steps.{TapeCommand, changes, stepOn}
-use Rattle.tape.specs.Laws.{stepsOn, AllAccepted}
+use Rattle.tape.specs.Steps.{TapeCommand, changes, stepOn, stepRule}
 use Rattle.writer.proofs.Cycles.{turn}
-
--- TWO LISTS of commands, one after the other
-pub stepsBoth : (w : Table) (cs ds : List TapeCommand) → stepsOn w (cs ++ ds) ≡ stepsOn (stepsOn w cs) ds
-stepsBoth w [] ds = refl
-stepsBoth w (c ∷ cs) ds = stepsBoth (stepOn w c) cs ds
-
-pub acceptedBoth :
-    (w : Table) (cs ds : List TapeCommand) → AllAccepted w cs → AllAccepted (stepsOn w cs) ds → AllAccepted w (cs ++ ds)
-acceptedBoth w [] ds a b = b
-acceptedBoth w (c ∷ cs) ds a b = (a .0, acceptedBoth (stepOn w c) cs ds (a .1) b)
 
 pub samePresent : (v w : Table) → hypermapOf v .darts ≡ hypermapOf w .darts → (x : ℕ) → isPresent v x ≡ isPresent w x
 samePresent v w d x = sym (memPresent v x) ∙ ap (among x) d ∙ memPresent w x
@@ -91,8 +81,8 @@ module _ (w v : Table) (k : Dimension) where
   pub joinedAll :
       (a : ℕ) (ts : List ℕ) (u : Table) (g : ℕ → ℕ) → Turned w v u k g → isPresent w a ≡ true →
       ((t : ℕ) → Mem t ts → (isPresent w t ≡ true) × (g t ≡ t)) → among a ts ≡ false → distinct ts ≡ true →
-      AllAccepted u (map changes (map (joins k a) ts)) ×
-      Turned w v (stepsOn u (map changes (map (joins k a) ts))) k (λ x. turn a ts (g x))
+      AllAccepted stepRule u (map changes (map (joins k a) ts)) ×
+      Turned w v (afterAll stepRule u (map changes (map (joins k a) ts))) k (λ x. turn a ts (g x))
   joinedAll a [] u g h pa r n d = (tt, h)
   joinedAll a (t ∷ ts) u g h pa r n d =
       let q = notAmong a t ts n in

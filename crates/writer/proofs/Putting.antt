@@ -15,15 +15,15 @@ use Rattle.hypermap.proofs.Basics.Lists.{Mem, memHead, memTail, distinctHead, d
 use Rattle.hypermap.proofs.Basics.Lists.{risingDistinct}
 use Rattle.table.specs.Layout.{Table, capacity, numbers, wordAt, nextWord, isPresent, holdsHypermap, hypermapOf}
 use Rattle.table.specs.Commands.{withAll, puts, commandRefusal}
+use Rattle.table.specs.Runs.{afterAll, AllAccepted}
 use Rattle.table.proofs.Numbers.{numbersRising}
 use Rattle.table.proofs.Holding.{low, high, presentFrom, memPresent}
 use Rattle.table.proofs.Writing.{nextSmall}
 use Rattle.table.proofs.Zeros.{zerosHold, zerosNone}
 use Rattle.table.proofs.Accepting.{putFits}
 use Rattle.table.proofs.Commands.{allLength, here, elsewhere, keepsHypermapLaw, presentElsewhere}
-use Rattle.tape.specs.Steps.{changes}
+use Rattle.tape.specs.Steps.{changes, stepRule}
 use Rattle.writer.specs.Canonical.{putsOf}
-use Rattle.tape.specs.Laws.{stepsOn, AllAccepted}
 
 -- ONE PUT
 module _ (v : Table) (x : ℕ) (l : 1 ≤ x) (h : x ≤ capacity v) where
@@ -78,7 +78,7 @@ module _ (w v : Table) (x : ℕ) (xs : List ℕ) (p : Puts w v (x ∷ xs)) where
 
 putting :
     (w : Table) (xs : List ℕ) (v : Table) → Puts w v xs →
-    AllAccepted v (map changes (map puts xs)) × Puts w (stepsOn v (map changes (map puts xs))) []
+    AllAccepted stepRule v (map changes (map puts xs)) × Puts w (afterAll stepRule v (map changes (map puts xs))) []
 putting w [] v p = (tt, p)
 putting w (x ∷ xs) v p =
     let r = putting w xs (withAll x x v) (dartPut w v x xs p) in ((dartAccepted w v x xs p, r .0), r .1)
@@ -115,7 +115,7 @@ zerosPuts w =
 
 pub putAll :
     (w : Table) →
-    AllAccepted (replicate (length w) 0) (map changes (putsOf (hypermapOf w))) ×
-    PutAll w (stepsOn (replicate (length w) 0) (map changes (putsOf (hypermapOf w))))
+    AllAccepted stepRule (replicate (length w) 0) (map changes (putsOf (hypermapOf w))) ×
+    PutAll w (afterAll stepRule (replicate (length w) 0) (map changes (putsOf (hypermapOf w))))
 unfolding putsOf
 putAll w = let r = putting w (hypermapOf w .darts) _ (zerosPuts w) in (r .0, allPut w _ (r .1))

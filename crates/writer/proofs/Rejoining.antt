@@ -16,12 +16,13 @@ use Rattle.hypermap.proofs.Hypermaps.Totals.{up, fit}
 use Rattle.hypermap.proofs.Laws.Orbits.{orbitLaw}
 use Rattle.hypermap.proofs.Laws.Counts.{countLaw}
 use Rattle.table.specs.Layout.{Table, capacity, wordAt, nextWord, isPresent, hypermapOf, holdsHypermap}
+use Rattle.table.specs.Runs.{afterAll, AllAccepted}
 use Rattle.table.proofs.Holding.{memPresent, tableHypermap}
-use Rattle.tape.specs.Steps.{changes}
+use Rattle.table.proofs.Runs.{afterBoth, acceptedBoth}
+use Rattle.tape.specs.Steps.{changes, stepRule}
 use Rattle.writer.specs.Canonical.{orbitJoins, joinsOver, joinsOf}
-use Rattle.tape.specs.Laws.{stepsOn, AllAccepted}
 use Rattle.writer.proofs.Cycles.{turn, turnElse, turnOrbit}
-use Rattle.writer.proofs.JoinSteps.{stepsBoth, acceptedBoth, Turned, joinedAll}
+use Rattle.writer.proofs.JoinSteps.{Turned, joinedAll}
 
 -- v has the darts of w, and in dimension k each is alone
 pub record Unjoined (w v : Table) (k : Dimension) : Type 0 where
@@ -96,9 +97,9 @@ module _ (w : Table) (k : Dimension) where
 
 -- THE JOINS of the orbits of xs: their darts get the successors of w, and no other successor changes
 record Rebuilt (w v u : Table) (k : Dimension) (xs : List ℕ) (g : ℕ → ℕ) : Type 0 where
-  accepted : AllAccepted u (map changes (joinsOver (hypermapOf w) k xs))
+  accepted : AllAccepted stepRule u (map changes (joinsOver (hypermapOf w) k xs))
   after : ℕ → ℕ
-  turning : Turned w v (stepsOn u (map changes (joinsOver (hypermapOf w) k xs))) k after
+  turning : Turned w v (afterAll stepRule u (map changes (joinsOver (hypermapOf w) k xs))) k after
   reached : (x z : ℕ) → Mem x xs → Together w k x z → after z ≡ wordAt w z (nextWord k)
   kept : (z : ℕ) → ((x : ℕ) → Mem x xs → Apart w k x (g z)) → after z ≡ g z
 
@@ -117,8 +118,8 @@ module _ (w v : Table) (k : Dimension) (s : holdsHypermap w ≡ true) where
         clash (rw (← e) at m) (distinctHead x xs d))
 
     firstJoined :
-        AllAccepted u (map changes (orbitJoins (hypermapOf w) k x)) ×
-        Turned w v (stepsOn u (map changes (orbitJoins (hypermapOf w) k x))) k (λ z. turned w k x (g z))
+        AllAccepted stepRule u (map changes (orbitJoins (hypermapOf w) k x)) ×
+        Turned w v (afterAll stepRule u (map changes (orbitJoins (hypermapOf w) k x))) k (λ z. turned w k x (g z))
     unfolding orbitJoins
     firstJoined =
         let i = leastDart w k s x first in
@@ -132,7 +133,7 @@ module _ (w v : Table) (k : Dimension) (s : holdsHypermap w ≡ true) where
     stillAlone y z m t = ap (turned w k x) (alone y z (memTail y x xs m) t) ∙ turnedElse w k x z (apart y z m t)
 
     module _
-        (i : Rebuilt w v (stepsOn u (map changes (orbitJoins (hypermapOf w) k x))) k xs (λ z. turned w k x (g z))) where
+        (i : Rebuilt w v (afterAll stepRule u (map changes (orbitJoins (hypermapOf w) k x))) k xs (λ z. turned w k x (g z))) where
       firstReached : (z : ℕ) → Together w k x z → i .after z ≡ wordAt w z (nextWord k)
       firstReached z t =
           let e = ap (turned w k x) (alone x z (memHead x xs) t) ∙ turnedNext w k s x z first t in
@@ -145,9 +146,9 @@ module _ (w v : Table) (k : Dimension) (s : holdsHypermap w ≡ true) where
           let ds = joinsOver (hypermapOf w) k xs in
           let e = map-append changes cs ds in
           record {
-            accepted = rw e (acceptedBoth u (map changes cs) (map changes ds) (firstJoined .0) (i .accepted));
+            accepted = rw e (acceptedBoth stepRule u (map changes cs) (map changes ds) (firstJoined .0) (i .accepted));
             after = i .after;
-            turning = rw (e, stepsBoth) (i .turning);
+            turning = rw (e, afterBoth stepRule) (i .turning);
             reached = λ y z c t. memCases y x xs c (λ e. firstReached z (rw e at t)) (λ c. i .reached y z c t);
             kept = λ z n.
                 let e = turnedElse w k x (g z) (n x (memHead x xs)) in
@@ -167,8 +168,8 @@ module _ (w v : Table) (k : Dimension) (s : holdsHypermap w ≡ true) where
 
 pub rejoin :
     (w v : Table) (k : Dimension) → holdsHypermap w ≡ true → Unjoined w v k →
-    AllAccepted v (map changes (joinsOf (hypermapOf w) k)) ×
-    Rejoined w v (stepsOn v (map changes (joinsOf (hypermapOf w) k))) k
+    AllAccepted stepRule v (map changes (joinsOf (hypermapOf w) k)) ×
+    Rejoined w v (afterAll stepRule v (map changes (joinsOf (hypermapOf w) k))) k
 rejoin w v k s p =
     let start : Turned w v v k (λ x. x) = record {
       size = p .size;

@@ -6,7 +6,8 @@ use lib.ListN.{length, replicate}
 use Rattle.hypermap.specs.Hypermap.{edges, vertices}
 use Rattle.table.specs.Limits.{wordsPerDart}
 use Rattle.table.specs.Layout.{Table, capacity, holdsHypermap, hypermapOf}
-use Rattle.tape.specs.Runs.{Outcome, runOf}
+use Rattle.table.specs.Runs.{Outcome}
+use Rattle.tape.specs.Runs.{runOf}
 use Rattle.writer.specs.Canonical.{commandsOf, tapeOf}
 
 -- the bytes of a canonical tape; with as many darts as the greatest table has room for there are at most
@@ -17,10 +18,10 @@ SizeLaw =
     length (tapeOf w) + 5 * (edges (hypermapOf w) + vertices (hypermapOf w)) ≡ 13 * length (hypermapOf w .darts)
 
 -- a canonical tape, played on an empty table of the same size, is accepted whole and builds the table
-pub record IsBuilt (w : Table) (o : Outcome) : Type 0 where
+pub record IsBuilt (w : Table) (o : Outcome Table) : Type 0 where
   pub whole : o .number ≡ 0
   pub all : o .accepted ≡ length (commandsOf w)
-  pub same : o .table ≡ w
+  pub same : o .state ≡ w
 
 abbrev pub BuildLaw : Type 0
 BuildLaw =

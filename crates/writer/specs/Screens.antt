@@ -6,7 +6,7 @@ use lib.IntN.{ℤ, pos, negsuc}
 use Rattle.table.specs.Layout.{Table, hypermapOf}
 use Rattle.parts.specs.Counts.{countsOf}
 use Rattle.parts.specs.declared.Counts.{Counts}
-use Rattle.tape.specs.Runs.{Outcome}
+use Rattle.table.specs.Runs.{Outcome}
 use Rattle.writer.specs.Canonical.{tapeOf}
 use Rattle.tape.specs.declared.Run.{Run}
 
@@ -29,10 +29,10 @@ tenNumbers n k c =
     c .genus ∷ c .lifts ∷ []
 
 -- document 01's order: tabs, ties, cells, gaps; and then the rewritten tape
-unfoldable pub screenBytes : Outcome → List ℕ
+unfoldable pub screenBytes : Outcome Table → List ℕ
 screenBytes o =
-    numbersBytes (tenNumbers (o .number) (o .accepted) (countsOf (hypermapOf (o .table)))) ++ tapeOf (o .table)
+    numbersBytes (tenNumbers (o .number) (o .accepted) (countsOf (hypermapOf (o .state)))) ++ tapeOf (o .state)
 
 -- an outcome by what a run tells
-abbrev pub outcomeOf : Run → Table → Outcome
-outcomeOf r w = record { number = r .number; accepted = r .accepted; table = w }
+abbrev pub outcomeOf : Run → Table → Outcome Table
+outcomeOf r w = record { number = r .number; accepted = r .accepted; state = w }
