@@ -12,7 +12,8 @@ use Rattle.tape.specs.Inner.{Playable}
 use Rattle.tape.specs.declared.Run.{Run}
 use Rattle.tape.proofs.Running.{zerosWithin, runKeepsHypermapLaw}
 use Rattle.writer.specs.Screens.{screenBytes, outcomeOf}
-use Rattle.kernel.specs.Tapes.{tapeRefusal, screenRefusal, screenLeaves, emptyTable}
+use Rattle.soundness.specs.Soundness.{tapeRefusal}
+use Rattle.kernel.specs.Tapes.{screenRefusal, screenLeaves, emptyTable}
 use Rattle.writer.specs.Inner.{ScreenRoom}
 
 -- THE CALL

@@ -20,9 +20,9 @@ use Rattle.writer.specs.Canonical.{tapeOf}
 use Rattle.writer.specs.Inner.{writtenOf, writtenLeaves}
 use Rattle.tape.specs.declared.Run.{Run}
 use Rattle.writer.specs.declared.Written.{Written}
-use Rattle.soundness.specs.Soundness.{tableRefusal}
+use Rattle.soundness.specs.Soundness.{tableRefusal, tapeRefusal}
 use Rattle.table.specs.Limits.{maxTape}
-use Rattle.kernel.specs.Tapes.{tapeRefusal, playRefusal, playOutcome, needsAnswer, tapeAnswer, tapeLeaves}
+use Rattle.kernel.specs.Tapes.{playRefusal, playOutcome, needsAnswer, tapeAnswer, tapeLeaves}
 use Rattle.kernel.specs.declared.Answer.{Answer}
 use Rattle.kernel.proofs.Answering.{listShort, listWritten}
 

@@ -5,8 +5,8 @@ use mathlib.Core.List.{List, _++_}
 use Prim.Native.Nat.{ℕ, _*_}
 use lib.Dec.{leb, eqb}
 use lib.ListN.{length, drop, replicate}
-use Rattle.table.specs.Refusals.{wrongSize, shortRoom, orElse, unless}
-use Rattle.table.specs.Limits.{wordsPerDart, maxCapacity, maxTape, screenRoom}
+use Rattle.table.specs.Refusals.{shortRoom, orElse, unless}
+use Rattle.table.specs.Limits.{wordsPerDart, maxCapacity, screenRoom}
 use Rattle.table.specs.Layout.{Table}
 use Rattle.tape.specs.Tapes.{contentsOf}
 use Rattle.table.specs.Runs.{Outcome, stopped}
@@ -15,14 +15,11 @@ use Rattle.writer.specs.Canonical.{tapeOf}
 use Rattle.writer.specs.Screens.{screenBytes}
 use Rattle.needs.specs.Amounts.{refusedNeeds, neededBy}
 use Rattle.needs.specs.declared.Needs.{Needs}
-use Rattle.soundness.specs.Soundness.{tableRefusal}
+use Rattle.soundness.specs.Soundness.{tableRefusal, tapeRefusal}
 use Rattle.kernel.specs.Calls.{listAnswer, listLeaves}
 use Rattle.kernel.specs.declared.Answer.{Answer}
 
 -- PLAYING: 1 for the tape or the table, then 2, before the first command is read
-unfoldable pub tapeRefusal : (tape : List ℕ) → ℕ
-tapeRefusal bs = unless (leb (length bs) maxTape) wrongSize
-
 unfoldable pub playRefusal : Table → (tape : List ℕ) → ℕ
 playRefusal w bs = orElse (tapeRefusal bs) (tableRefusal w)
 

@@ -15,12 +15,12 @@ use Rattle.table.specs.Layout.{Table, isPresent, hypermapOf}
 use Rattle.table.specs.Commands.{Command, presenceRefusal, commandRefusal, commandOn, leaves}
 use Rattle.table.proofs.Stages.{passed, refusedFirst, refusedSecond, presentFits}
 use Rattle.parts.specs.Counts.{lifts, countsOf}
-use Rattle.soundness.specs.Soundness.{tableRefusal}
+use Rattle.soundness.specs.Soundness.{tableRefusal, tapeRefusal}
 use Rattle.rings.specs.Rings.{linksOf, ringRefusal, cutAlong}
 use Rattle.tape.specs.Runs.{runOf}
 use Rattle.kernel.specs.Calls.{callRefusal, callLeaves, ringCallRefusal, ringCallLeaves, reportOn, reportOf}
 use Rattle.kernel.specs.Calls.{questionRefusal, componentReportOf, answer, listRefusal, listAnswer}
-use Rattle.kernel.specs.Tapes.{tapeRefusal, playRefusal, playOutcome}
+use Rattle.kernel.specs.Tapes.{playRefusal, playOutcome}
 use Rattle.kernel.specs.declared.Totals.{Totals}
 
 -- A REPORT

@@ -27,7 +27,8 @@ use Rattle.tape.specs.Tapes.{contentsOf}
 use Rattle.kernel.specs.Calls.{callRefusal, callLeaves, ringCallRefusal, ringCallLeaves, reportOn}
 use Rattle.kernel.specs.Calls.{questionRefusal, answer, sameAnswer, listRefusal, listLeaves}
 use Rattle.kernel.specs.Calls.{listAnswer, lookOf}
-use Rattle.kernel.specs.Tapes.{tapeRefusal, playRefusal, playOutcome, screenRefusal, screenLeaves}
+use Rattle.soundness.specs.Soundness.{tapeRefusal}
+use Rattle.kernel.specs.Tapes.{playRefusal, playOutcome, screenRefusal, screenLeaves}
 use Rattle.promises.specs.FirstDemand.{Refuses, RefusesAnswer, RefusesReport, FirstDemand}
 use Rattle.kernel.proofs.Judging.{dartsReady}
 use Rattle.promises.proofs.RefusalNumbers.{One, unlessOne, orElseOne, tableOne, presenceOne, commandOne}

@@ -16,9 +16,9 @@ use Rattle.table.specs.Runs.{Rule, runBy}
 use Rattle.rings.specs.Rings.{conditionRefusal, ringRefusal}
 use Rattle.tape.specs.Steps.{TapeCommand, changes, reports, cutsRing, stepRefusal, stepRule}
 use Rattle.tape.specs.Tapes.{readRefusal, restOf, contentsBy}
-use Rattle.soundness.specs.Soundness.{tableRefusal}
+use Rattle.soundness.specs.Soundness.{tableRefusal, tapeRefusal}
 use Rattle.kernel.specs.Calls.{callRefusal, ringCallRefusal}
-use Rattle.kernel.specs.Tapes.{tapeRefusal, playRefusal, playOutcome}
+use Rattle.kernel.specs.Tapes.{playRefusal, playOutcome}
 use Rattle.promises.specs.FirstDemand.{OneOf, tableRefusals, commandRefusals, ringRefusals}
 use Rattle.promises.specs.FirstDemand.{runRefusals}
 

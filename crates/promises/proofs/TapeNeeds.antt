@@ -24,8 +24,8 @@ use Rattle.needs.specs.declared.Needs.{Needs}
 use Rattle.needs.proofs.Capacities.{capacityLaw, acceptedCapacityLaw}
 use Rattle.needs.proofs.Peaks.{peakLaw, mostDartsLaw, noDarts}
 use Rattle.needs.proofs.ChangedWords.{wordsLaw}
-use Rattle.soundness.specs.Soundness.{tableRefusal}
-use Rattle.kernel.specs.Tapes.{tapeRefusal, playRefusal, playOutcome, needsAnswer, emptyTable}
+use Rattle.soundness.specs.Soundness.{tableRefusal, tapeRefusal}
+use Rattle.kernel.specs.Tapes.{playRefusal, playOutcome, needsAnswer, emptyTable}
 use Rattle.promises.specs.TapeNeeds.{IsForetold, NeedsPromise}
 use Rattle.soundness.proofs.Passing.{tablePassed}
 use Rattle.kernel.proofs.Tapes.{needsLong, needsRead}

@@ -13,7 +13,7 @@ use Rattle.table.specs.Refusals.{shortRoom, unless}
 use Rattle.table.specs.Layout.{Table, capacity, hypermapOf}
 use Rattle.table.proofs.Stages.{passed}
 use Rattle.table.proofs.Zeros.{zerosHold}
-use Rattle.soundness.specs.Soundness.{sizeFits, tableRefusal}
+use Rattle.soundness.specs.Soundness.{sizeFits, tableRefusal, tapeRefusal}
 use Rattle.soundness.proofs.Passing.{tablePassed, tableFits, wholeWords, holdsSound}
 use Rattle.table.specs.Runs.{Outcome}
 use Rattle.writer.specs.Canonical.{tapeOf}
@@ -21,7 +21,7 @@ use Rattle.writer.specs.Screens.{numbersBytes, screenBytes}
 use Rattle.writer.specs.Laws.{IsBuilt}
 use Rattle.writer.proofs.Sizes.{tapeFits}
 use Rattle.writer.proofs.Building.{buildLaw, onlyTapeLaw}
-use Rattle.kernel.specs.Tapes.{tapeRefusal, playOutcome, emptyTable, screenRefusal, screenLeaves}
+use Rattle.kernel.specs.Tapes.{playOutcome, emptyTable, screenRefusal, screenLeaves}
 use Rattle.kernel.proofs.Answering.{givenReport}
 use Rattle.kernel.proofs.Tapes.{played}
 use Rattle.promises.specs.Plans.{reportNumbers}

@@ -1,10 +1,11 @@
--- What a caller's table must pass before all else. Document 01, "Table" and refusals 1 and 2. Assumes nothing: these
--- are definitions.
+-- What a caller's table and tape must pass before all else. Document 01, "Table" and refusals 1 and 2. Assumes
+-- nothing: these are definitions.
 use mathlib.Core.Bool.{Bool, _&&_}
+use mathlib.Core.List.{List}
 use Prim.Native.Nat.{ℕ, _*_, _%_}
 use lib.Dec.{leb, eqb}
 use lib.ListN.{length}
-use Rattle.table.specs.Limits.{wordsPerDart, maxCapacity}
+use Rattle.table.specs.Limits.{wordsPerDart, maxCapacity, maxTape}
 use Rattle.table.specs.Refusals.{wrongSize, bentTable, orElse, unless}
 use Rattle.table.specs.Layout.{Table, holdsHypermap}
 
@@ -19,3 +20,7 @@ isSound w = holdsHypermap w
 
 unfoldable pub tableRefusal : Table → ℕ
 tableRefusal w = orElse (unless (sizeFits w) wrongSize) (unless (isSound w) bentTable)
+
+-- "tape above 65,536 bytes" is 1
+unfoldable pub tapeRefusal : (tape : List ℕ) → ℕ
+tapeRefusal bs = unless (leb (length bs) maxTape) wrongSize

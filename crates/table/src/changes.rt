@@ -60,7 +60,7 @@ fn are_together(table: &[u16], d: Dimension, a: u32, b: u32) -> bool
 
 // THE REFUSAL of a change
 
-fn put_refusal(table: &[u16], x: u32) -> u8
+pub fn put_refusal(table: &[u16], x: u32) -> u8
     ensures { λ r. ⌜ r ≡ commandRefusal (now (table .entry)) (puts x) ⌝ }
 {
     refusals::or_else(
@@ -69,7 +69,7 @@ fn put_refusal(table: &[u16], x: u32) -> u8
     )
 }
 
-fn take_out_refusal(table: &[u16], x: u32) -> u8
+pub fn take_out_refusal(table: &[u16], x: u32) -> u8
     requires { ⌜ WithinCapacity (now table) ⌝ }
     ensures { λ r. ⌜ r ≡ commandRefusal (now (table .entry)) (takesOut x) ⌝ }
 {
@@ -80,7 +80,7 @@ fn take_out_refusal(table: &[u16], x: u32) -> u8
     refusals::unless_so(is_alone(table, to_word(x)), refusals::TAB_HELD)
 }
 
-fn join_refusal(table: &[u16], d: Dimension, a: u32, b: u32) -> u8
+pub fn join_refusal(table: &[u16], d: Dimension, a: u32, b: u32) -> u8
     requires { ⌜ WithinCapacity (now table) ⌝ }
     ensures { λ r. ⌜ r ≡ commandRefusal (now (table .entry)) (joins (dimensionOf d) a b) ⌝ }
 {
@@ -91,7 +91,7 @@ fn join_refusal(table: &[u16], d: Dimension, a: u32, b: u32) -> u8
     refusals::unless_so(!are_together(table, d, a, b), refusals::TOGETHER)
 }
 
-fn cut_refusal(table: &[u16], d: Dimension, a: u32, b: u32) -> u8
+pub fn cut_refusal(table: &[u16], d: Dimension, a: u32, b: u32) -> u8
     requires { ⌜ WithinCapacity (now table) ⌝ }
     ensures { λ r. ⌜ r ≡ commandRefusal (now (table .entry)) (cuts (dimensionOf d) a b) ⌝ }
 {
@@ -152,7 +152,7 @@ pub fn write(table: &mut [u16], change: Change)
 // BOTH AT ONCE, for a run of many changes. It goes by arms, in which the dimension is known; a caller has it compiled
 // into its loop as long as it is the only one. A call for a single change asks `refusal_of`, and then `write`.
 
-fn write_all_unless(table: &mut [u16], refusal: u8, x: u32, value: u32) -> u8
+pub fn write_all_unless(table: &mut [u16], refusal: u8, x: u32, value: u32) -> u8
     requires { ⌜ (refusal ≡ 0 → Storable (now table) x value) ⌝ }
     ensures { λ r. ⌜ r ≡ refusal ⌝ }
     ensures table { λ _. ⌜ now (table .exit) ≡
@@ -164,7 +164,7 @@ fn write_all_unless(table: &mut [u16], refusal: u8, x: u32, value: u32) -> u8
     refusal
 }
 
-fn write_swap_unless(table: &mut [u16], refusal: u8, d: Dimension, a: u32, b: u32) -> u8
+pub fn write_swap_unless(table: &mut [u16], refusal: u8, d: Dimension, a: u32, b: u32) -> u8
     requires { ⌜ (refusal ≡ 0 → WithinCapacityAtBoth (now table) a b) ⌝ }
     ensures { λ r. ⌜ r ≡ refusal ⌝ }
     ensures table { λ _. ⌜ now (table .exit) ≡

@@ -1,0 +1,5 @@
+pub mod Entries
+pub mod Heads
+pub mod Journaling
+pub mod Undoing
+pub mod Inner
