@@ -1,10 +1,10 @@
--- The room of a journal, and checkpoints that fit its length: set, kept or dropped as the length is cut back, and read.
--- Assumes nothing.
+-- Checkpoints that fit the length of a journal: set, kept or dropped as the length is cut back, and read. Assumes
+-- nothing.
 use mathlib.Core.Path.{_≡_, refl, sym, _∙_}
 use mathlib.Core.Bool.{true, _&&_, not}
 use mathlib.Core.List.{List, [], _∷_, map}
 use mathlib.Core.Logic.{_≢_}
-use Prim.Native.Nat.{ℕ, zero, suc, _*_, _≤_, _<_}
+use Prim.Native.Nat.{ℕ, zero, suc, _≤_, _<_}
 use native.Mathlib.Omega.{arith}
 use lib.Dec.{leb, ltb, eqb}
 use lib.ListN.{length, getD, set}
@@ -13,25 +13,12 @@ use borrow.Author.Tests.{eqb-false, ne-eqb, leb-true, le-leb, ltb-false, le-ltb,
 use Rattle.hypermap.specs.Lists.{all}
 use Rattle.hypermap.proofs.Basics.Bools.{byCases, andLeft, andRight, andTrue, orLeft, orRight}
 use Rattle.hypermap.proofs.Basics.Lists.{allMem, memAll}
-use Rattle.table.specs.Limits.{wordsPerEntry, maxEntries, unset, checkpointCount}
+use Rattle.table.specs.Limits.{unset, checkpointCount}
 use Rattle.table.specs.Refusals.{noMark}
 use Rattle.table.proofs.Stages.{fitting}
-use Rattle.journal.specs.Entries.{Journal}
-use Rattle.journal.specs.Heads.{hasRoom, checkpointFits, checkpointOf, withCheckpoint, keptTo, cutBack}
+use Rattle.journal.specs.Heads.{checkpointFits, checkpointOf, withCheckpoint, keptTo, cutBack}
 use Rattle.journal.specs.Heads.{backRefusal}
 use Rattle.journal.specs.declared.Head.{Head}
-
--- ROOM
-pub roomOf : (j : Journal) (n : ℕ) → hasRoom j n ≡ true → (wordsPerEntry * n ≤ length j) × (n ≤ maxEntries)
-unfolding hasRoom
-roomOf j n t = (
-  leb-true _ _ (andLeft (leb (wordsPerEntry * n) (length j)) (leb n maxEntries) t),
-  leb-true _ _ (andRight (leb (wordsPerEntry * n) (length j)) (leb n maxEntries) t),
-)
-
-pub roomFor : (j : Journal) (n : ℕ) → wordsPerEntry * n ≤ length j → n ≤ maxEntries → hasRoom j n ≡ true
-unfolding hasRoom
-roomFor j n h g = andTrue _ _ (le-leb _ _ h) (le-leb n maxEntries g)
 
 -- ONE CHECKPOINT fits a length where it is not past it, unless it is not set
 pub fitsBelow : (n c : ℕ) → checkpointFits n c ≡ true → c ≢ unset → c ≤ n

@@ -1,7 +1,7 @@
 -- What the entries of a journal lead back to, undone from the latest: a change adds its own undo, and going back takes
 -- undos away, wherever it is stopped. Assumes nothing.
 use mathlib.Core.Path.{_≡_, refl, ap, sym, _∙_}
-use mathlib.Core.Bool.{true, _&&_}
+use mathlib.Core.Bool.{true}
 use mathlib.Core.List.{List, [], _∷_}
 use Prim.Native.Nat.{ℕ, zero, suc, _+_, _-_, _*_, _%_, _≤_, _<_}
 use native.Mathlib.Omega.{arith}
@@ -26,16 +26,10 @@ use Rattle.journal.specs.Journaling.{changesIn, Recorded, journaledRefus
 use Rattle.journal.specs.Undoing.{undoRefusal, undoOn, undoRule, latestFirst, undoing}
 use Rattle.journal.proofs.EntryWords.{commandIsChange, commandReadBack, entryLength, entryReadBack, otherEntry}
 use Rattle.journal.proofs.EntryWords.{entriesLength}
-use Rattle.journal.proofs.Checkpoints.{roomOf, roomFor}
+use Rattle.journal.proofs.Room.{roomKnown, roomFrom}
+use Rattle.journal.proofs.Undoings.{undoPassed, latestLength}
 
--- ONE UNDO
-undoPassed : (w : Table) (e : Entry) → undoRefusal w e ≡ 0 → commandRefusal w (opposite (commandIn e)) ≡ 0
-unfolding undoRefusal
-undoPassed w e z =
-    let t = fitting (isChange e && eqb (commandRefusal w (opposite (commandIn e))) 0) undoUnfit (omega arith) z in
-    eqb-true _ _ (andRight (isChange e) _ t)
-
--- of a change's own entry
+-- A CHANGE'S OWN ENTRY undone
 undoOwn :
     (w : Table) → holdsHypermap w ≡ true → length w % wordsPerDart ≡ 0 → (c : Command) → commandRefusal w c ≡ 0 →
     (undoRefusal (commandOn w c) (entryOf c) ≡ 0) × (undoOn (commandOn w c) (entryOf c) ≡ w)
@@ -44,10 +38,6 @@ undoOwn w s z c e =
     let o = oppositeLaw w s z c e in rw (commandReadBack c) (rw (commandIsChange c, eq-eqb _ _ (o .0)), o .1)
 
 -- THE ENTRIES undone
-latestLength : (j : Journal) (p n : ℕ) → length (latestFirst j p n) ≡ n
-latestLength j p zero = refl
-latestLength j p (suc n) = ap suc (latestLength j p n)
-
 sameEntries :
     (i j : Journal) (p n : ℕ) → ((k : ℕ) → k < p + n → entryAt i k ≡ entryAt j k) →
     latestFirst i p n ≡ latestFirst j p n
@@ -161,14 +151,14 @@ module _ (p : ℕ) (t : Table) where
         let n = length (changesIn c) in
         let f = passed (stepRefusal (r .table) c) (roomRefusal (r .journal) (r .used) n) e in
         let g = fitting (hasRoom (r .journal) (r .used + n)) journalFull (omega arith) (f .1) in
-        let h = roomOf (r .journal) (r .used + n) g in
+        let h = roomKnown (r .journal) (r .used + n) g in
         let s = stepChanges (r .table) (b .back .hypermap) c (f .0) in
         let l = entriesLength (changesIn c) (r .journal) (r .used) in
         let x : p + (r .used - p) ≡ r .used = omega arith in
         let y : r .used + n - p ≡ r .used - p + n = omega arith in
         record {
           low = omega arith;
-          room = roomFor _ (r .used + n) (omega arith) (h .1);
+          room = roomFrom _ (r .used + n) (omega arith) (h .1);
           back =
               rw (y, ← s .1)
               (rw x at (changesLeadBack p t whole (changesIn c) (r .journal) (r .used - p) (r .table) (s .0)
@@ -191,11 +181,11 @@ module _ (p : ℕ) (t : Table) where
       let o = undoing (r .table) (r .journal) q n in
       let few = runLaw Table Entry undoRule (r .table) (latestFirst (r .journal) q n) 0 .few in
       let m = latestLength (r .journal) q n in
-      let k = roomOf (r .journal) (r .used) (b .room) in
+      let k = roomKnown (r .journal) (r .used) (b .room) in
       let y : r .used - o .accepted - p ≡ r .used - p - o .accepted = omega arith in
       record {
         low = h;
-        room = roomFor (r .journal) (r .used - o .accepted) (omega arith) (omega arith);
+        room = roomFrom (r .journal) (r .used - o .accepted) (omega arith) (omega arith);
         back =
             rw y (stillLeadsBack (r .journal) q p t n (r .used - p) (r .table) (omega arith) (b .back) (omega arith));
       }

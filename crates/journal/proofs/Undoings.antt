@@ -2,7 +2,7 @@
 use mathlib.Core.Path.{_≡_, refl, ap, sym, _∙_}
 use mathlib.Core.Bool.{Bool, true, false, _&&_, _||_, cond}
 use mathlib.Core.List.{[], _∷_}
-use Prim.Native.Nat.{ℕ, suc, _+_, _-_, _*_, _≤_, _<_}
+use Prim.Native.Nat.{ℕ, zero, suc, _+_, _-_, _*_, _≤_, _<_}
 use native.Mathlib.Omega.{arith}
 use lib.Dec.{leb, ltb, eqb}
 use lib.ListN.{length, getD}
@@ -16,7 +16,7 @@ use Rattle.table.specs.Runs.{Outcome, stopped, runBy, ruleLeaves}
 use Rattle.table.specs.Inner.{WithinCapacity, Accepts}
 use Rattle.table.proofs.Stages.{fitting}
 use Rattle.table.proofs.Commands.{keepsHypermapLaw}
-use Rattle.table.proofs.Runs.{runStops, runGoesOn, later, laterNone, laterOne, laterStopped}
+use Rattle.table.proofs.Runs.{runLaw, runStops, runGoesOn, later, laterNone, laterOne, laterStopped}
 use Rattle.journal.specs.Entries.{Journal, Entry, isChange, commandIn, entryAt}
 use Rattle.journal.specs.Undoing.{undoRefusal, undoOn, undoRule, latestFirst, undoing}
 use Rattle.journal.specs.Inner.{entry, Undoable}
@@ -68,6 +68,21 @@ pub noneUndoes :
     (w : Table) (y : Entry) → isChange y ≡ false → (undoUnfit ≡ undoRefusal w y) × (w ≡ ruleLeaves undoRule w y)
 unfolding undoRefusal unless leaves
 noneUndoes w y f = rw f (refl, refl)
+
+-- an entry that is undone has an opposite command that is accepted
+pub undoPassed : (w : Table) (y : Entry) → undoRefusal w y ≡ 0 → commandRefusal w (opposite (commandIn y)) ≡ 0
+unfolding undoRefusal
+undoPassed w y z =
+    let t = fitting (isChange y && eqb (commandRefusal w (opposite (commandIn y))) 0) undoUnfit (omega arith) z in
+    eqb-true _ 0 (andRight (isChange y) _ t)
+
+pub latestLength : (j : Journal) (p n : ℕ) → length (latestFirst j p n) ≡ n
+latestLength j p zero = refl
+latestLength j p (suc n) = ap suc (latestLength j p n)
+
+-- no more are undone than there are
+pub undoneAtMost : (w : Table) (j : Journal) (p n : ℕ) → undoing w j p n .accepted ≤ n
+undoneAtMost w j p n = omega (arith, runLaw Table Entry undoRule w (latestFirst j p n) 0 .few, latestLength j p n)
 
 -- GOING BACK: from w₀ and all used entries down to n of them
 pub record Going (w₀ : Table) (j : Journal) (used to : ℕ) (w : Table) (n : ℕ) : Type 0 where
@@ -130,13 +145,11 @@ module _ (w₀ : Table) (j : Journal) (used to : ℕ) (w : Table) (n : ℕ) (h :
         rw (q, u .0)
 
     pub goingOn : f ≡ 0 → Going w₀ j used to v (n - 1)
-    unfolding leaves undoRefusal
+    unfolding leaves
     goingOn z =
         let a : undoRefusal w y ≡ 0 = sym (u .0) ∙ z in
         let q : v ≡ undoOn w y = u .1 ∙ rw (eq-eqb (undoRefusal w y) 0 a) in
-        let t = fitting (isChange y && eqb (commandRefusal w (opposite (commandIn y))) 0) undoUnfit (omega arith) a in
-        let i = keepsHypermapLaw w (h .table .hypermap) (opposite (commandIn y))
-        (eqb-true _ 0 (andRight (isChange y) _ t)) in
+        let i = keepsHypermapLaw w (h .table .hypermap) (opposite (commandIn y)) (undoPassed w y a) in
         let high = h .high in
         let k : used - n + 1 ≡ used - (n - 1) = omega arith in
         rw q (record {

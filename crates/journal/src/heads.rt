@@ -3,7 +3,8 @@ ghost use mathlib.Core.Path.{_≡_};
 ghost use Prim.Native.Nat.{_<_};
 ghost use Rattle.hypermap.specs.Lists.{all};
 ghost use Rattle.table.specs.Limits.{checkpointCount};
-ghost use Rattle.journal.specs.Heads.{checkpointFits, headFits, headRefusal, withCheckpoint, cutBack};
+ghost use Rattle.journal.specs.Heads.{checkpointFits, headFits, headRefusal, withLength, withCheckpoint};
+ghost use Rattle.journal.specs.Heads.{cutBack};
 ghost use Rattle.journal.specs.Inner.{IsRoom, CheckpointRead};
 use crate::Head;
 use crate::entries::to_usize;
@@ -57,6 +58,17 @@ pub fn head_refusal(journal: &[u16], head: Head) -> u8
     ensures { λ r. ⌜ r ≡ headRefusal (now (journal .entry)) head ⌝ }
 {
     refusals::unless_so(head_fits(journal, head), refusals::UNDO_UNFIT)
+}
+
+// The head with n entries used, and its checkpoints.
+pub fn with_length(head: Head, n: u32) -> Head
+    ensures { λ r. ⌜ r ≡ withLength n head ⌝ }
+{
+    let checkpoints = head.checkpoints;
+    Head {
+        checkpoints: checkpoints,
+        length: n,
+    }
 }
 
 // The head with checkpoint c at its length.

@@ -16,6 +16,9 @@ use Rattle.journal.specs.Heads.{headRefusal, checkpointOf, withLength, withChec
 use Rattle.journal.specs.Journaling.{Recorded, journaledRefusal, journaledOn, journalRule}
 use Rattle.journal.specs.Undoing.{undoing}
 use Rattle.journal.specs.declared.Head.{Head}
+use Rattle.journal_calls.specs.declared.Journaled.{Journaled}
+use Rattle.journal_calls.specs.declared.JournaledRun.{JournaledRun}
+use Rattle.journal_calls.specs.declared.Undone.{Undone}
 
 -- what is lent, and the head that goes with it
 pub record State : Type 0 where
@@ -88,6 +91,19 @@ wentBack s o =
 
 unfoldable pub backReply : State → (c : ℕ) → Reply
 backReply s c = cond (eqb (backCallRefusal s c) 0) (wentBack s (undoingTo s c)) (stopped (backCallRefusal s c) s)
+
+-- ANSWERS, as the calls give them
+abbrev pub stateOf : Table → Journal → Head → State
+stateOf w j h = record { table = w; journal = j; head = h }
+
+abbrev pub journaledOf : Reply → Journaled
+journaledOf r = record { number = r .number; head = r .state .head }
+
+abbrev pub journaledRunOf : Reply → JournaledRun
+journaledRunOf r = record { number = r .number; accepted = r .accepted; head = r .state .head }
+
+abbrev pub undoneOf : Reply → Undone
+undoneOf r = record { number = r .number; undone = r .accepted; head = r .state .head }
 
 -- EVERY CALL
 pub data Call : Type 0 where

@@ -12,4 +12,7 @@ pub mod TapeNeeds
 pub mod Lifts
 pub mod Rounds
 pub mod ComponentReports
+pub mod JournalRefusals
+pub mod WaysBack
+pub mod Journals
 pub mod Promises

@@ -8,6 +8,7 @@ use Rattle.promises.proofs.TapeNeeds.{needsPromise}
 use Rattle.promises.proofs.Lifts.{liftsPromise}
 use Rattle.promises.proofs.Rounds.{roundPromise}
 use Rattle.promises.proofs.ComponentReports.{componentPromise}
+use Rattle.promises.proofs.Journals.{journalPromise}
 
 pub promises : Promises
 promises = record {
@@ -19,4 +20,5 @@ promises = record {
   lifts = liftsPromise;
   rounds = roundPromise;
   componentReports = componentPromise;
+  journals = journalPromise;
 }

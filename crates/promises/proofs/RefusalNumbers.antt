@@ -52,7 +52,7 @@ presenceOne w xs p q = orElseOne (unlessOne _ _ p) (unlessOne _ _ q)
 pub widen : {n : ℕ} {ns : List ℕ} (ms : List ℕ) → all (λ k. among k ms) ns ≡ true → One n ns → One n ms
 widen {n} {ns} ms p f = record { one = λ z. allMem (λ k. among k ms) ns p n (f .one z) }
 
-restOne : (w : Table) (c : Command) → One (commandRefusal w c) (commandRefusals c)
+pub restOne : (w : Table) (c : Command) → One (commandRefusal w c) (commandRefusals c)
 unfolding among
 restOne w (puts x) = orElseOne (unlessOne _ _ refl) (unlessOne _ _ refl)
 restOne w (takesOut x) = orElseOne (presenceOne _ _ refl refl) (unlessOne _ _ refl)
@@ -61,7 +61,7 @@ restOne w (cuts k a b) =
     orElseOne (presenceOne _ _ refl refl) (orElseOne (unlessOne _ _ refl) (unlessOne _ _ refl))
 
 -- every command's numbers begin with the table's, and are numbers of a run
-tableFirst : (w : Table) (c : Command) → One (tableRefusal w) (commandRefusals c)
+pub tableFirst : (w : Table) (c : Command) → One (tableRefusal w) (commandRefusals c)
 unfolding among
 tableFirst w (puts x) = tableOne w refl refl
 tableFirst w (takesOut x) = tableOne w refl refl
@@ -79,7 +79,7 @@ pub commandOne : (w : Table) (c : Command) → One (callRefusal w c) (commandRef
 unfolding callRefusal
 commandOne w c = orElseOne (tableFirst w c) (restOne w c)
 
-ringRest : (w : Table) (ws : List ℕ) → One (ringRefusal w ws) ringRefusals
+pub ringRest : (w : Table) (ws : List ℕ) → One (ringRefusal w ws) ringRefusals
 unfolding among ringRefusal conditionRefusal
 ringRest w ws =
     orElseOne (unlessOne _ _ refl)
@@ -97,7 +97,7 @@ pub playOne : (w : Table) (tape : List ℕ) → One (playRefusal w tape) tableRe
 unfolding playRefusal tapeRefusal among
 playOne w tape = orElseOne (unlessOne _ _ refl) (tableOne _ refl refl)
 
-stepOne : (w : Table) (c : TapeCommand) → One (stepRefusal w c) runRefusals
+pub stepOne : (w : Table) (c : TapeCommand) → One (stepRefusal w c) runRefusals
 unfolding among all
 stepOne w (changes c) = widen runRefusals (inRun c) (restOne w c)
 stepOne w reports = none

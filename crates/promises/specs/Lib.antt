@@ -6,4 +6,5 @@ pub mod TapeNeeds
 pub mod Lifts
 pub mod Rounds
 pub mod ComponentReports
+pub mod Journals
 pub mod Promises

@@ -9,6 +9,7 @@ use Rattle.promises.specs.TapeNeeds.{NeedsPromise}
 use Rattle.promises.specs.Lifts.{LiftsPromise}
 use Rattle.promises.specs.Rounds.{RoundPromise}
 use Rattle.promises.specs.ComponentReports.{ComponentPromise}
+use Rattle.promises.specs.Journals.{JournalPromise}
 
 pub record Promises : Type 0 where
   -- every call replies; a refused one leaves what it was lent as it was
@@ -27,3 +28,5 @@ pub record Promises : Type 0 where
   pub rounds : RoundPromise
   -- Job 4: the report of one component
   pub componentReports : ComponentPromise
+  -- Job 5: named states to come back to
+  pub journals : JournalPromise

@@ -1,0 +1,28 @@
+use borrow.Author.Needs.{needs}
+use Rattle.journal_calls.proofs.cut.Statement.{statement}
+use Rattle.journal_calls.proofs.cut.Tie as tie
+
+returns : tie.Need-returns
+returns c =
+    let a = c .before .before .before .before in
+    rw (a .before .before .before .enum-told .given .1) (a .make-change .ensures)
+
+returns-2 : tie.Need-returns-2
+returns-2 c =
+    let a = c .before .before .before .before in
+    rw (a .before .before .before .enum-told2 .given .1) (a .make-change2 .ensures)
+
+pub cut-spec : {M : Type 1} → statement M
+cut-spec =
+    tie.close
+    (tie.spec
+    (λ c. search needs)
+    (λ c κs. search needs)
+    (λ c. search needs)
+    (λ c κs. search needs)
+    (λ c. search needs)
+    (λ c. search needs)
+    returns
+    (λ c. search needs)
+    (λ c. search needs)
+    returns-2)
