@@ -10,6 +10,9 @@ ghost use Rattle.kernel.specs.Calls.{callRefusal, callLeaves, ringCallRefusal, 
 ghost use Rattle.kernel.specs.Calls.{componentReportOf, sameAnswer, roundAnswer, roundLeaves, marksAnswer, marksLeaves};
 ghost use Rattle.kernel.specs.Tapes.{playOutcome, needsAnswer, tapeAnswer, tapeLeaves};
 ghost use Rattle.kernel.specs.Tapes.{screenRefusal, screenLeaves};
+
+pub mod journals;
+
 use kernel::Answer;
 use kernel::Dimension;
 use kernel::Needs;
