@@ -6,8 +6,11 @@ use super::{
     table_refusal, take_out_refusal, Dimension, MAX_TAPE,
 };
 use crate::binding::journal::{Head, Journaled, JournaledRun, Undone, UNSET};
+use crate::binding::Run;
+use std::slice::ChunksExactMut;
 
-/// A change, with the operands of its entry.
+/// A change, with the operands of its entry. Everywhere it is judged, made and written in one place of the code, where
+/// its kind is known: without inlining a run takes two thirds longer.
 #[derive(Clone, Copy)]
 pub enum Change {
     Put(u16),
@@ -17,7 +20,7 @@ pub enum Change {
 }
 
 impl Change {
-    #[inline]
+    #[inline(always)]
     fn refusal(self, table: &[u16]) -> u8 {
         match self {
             Change::Put(tab) => put_refusal(table, tab),
@@ -27,7 +30,7 @@ impl Change {
         }
     }
 
-    #[inline]
+    #[inline(always)]
     fn make(self, table: &mut [u16]) {
         match self {
             Change::Put(tab) => set_all(table, tab, tab),
@@ -36,7 +39,7 @@ impl Change {
         }
     }
 
-    #[inline]
+    #[inline(always)]
     fn entry(self) -> [u16; 3] {
         match self {
             Change::Put(tab) => [1, tab, 0],
@@ -49,7 +52,7 @@ impl Change {
     }
 
     /// The change that takes back that of an entry, if it is one.
-    #[inline]
+    #[inline(always)]
     fn opposite(entry: &[u16]) -> Option<Change> {
         let (a, b) = (entry[1], entry[2]);
         match entry[0] {
@@ -84,42 +87,40 @@ fn most_entries(journal: &[u16]) -> usize {
     (journal.len() / 3).min(UNSET as usize - 1)
 }
 
-fn write_entry(journal: &mut [u16], length: &mut u32, entry: [u16; 3]) {
-    let at = 3 * *length as usize;
-    journal[at..at + 3].copy_from_slice(&entry);
-    *length += 1;
+/// The places of further entries: one that is taken is no longer among them.
+type Room<'a> = ChunksExactMut<'a, u16>;
+
+fn room(journal: &mut [u16], length: u32) -> Room<'_> {
+    let most = most_entries(journal);
+    journal[3 * length as usize..3 * most].chunks_exact_mut(3)
+}
+
+/// How many entries there are when this room is left.
+fn length(most: usize, room: &Room) -> u32 {
+    (most - room.len()) as u32
 }
 
 // CHANGES
 
-#[inline]
-fn change_on(table: &mut [u16], journal: &mut [u16], length: &mut u32, change: Change) -> u8 {
-    match change.refusal(table) {
-        0 if *length as usize >= most_entries(journal) => 18,
-        0 => {
-            change.make(table);
-            write_entry(journal, length, change.entry());
-            0
-        }
-        refusal => refusal,
+#[inline(always)]
+fn change_on(table: &mut [u16], room: &mut Room, change: Change) -> u8 {
+    let refusal = change.refusal(table);
+    if refusal != 0 {
+        return refusal;
     }
+    let Some(place) = room.next() else { return 18 };
+    change.make(table);
+    place.copy_from_slice(&change.entry());
+    0
 }
 
-pub fn change(table: &mut [u16], journal: &mut [u16], mut head: Head, change: Change) -> Journaled {
-    let number = match refusal(table, journal, &head) {
-        0 => change_on(table, journal, &mut head.length, change),
-        refusal => refusal,
-    };
-    Journaled { number, head }
-}
-
-fn ring_cut_on(table: &mut [u16], journal: &mut [u16], length: &mut u32, ring: &[u16]) -> u8 {
+fn ring_cut_on(table: &mut [u16], room: &mut Room, ring: &[u16]) -> u8 {
     match ring_refusal(table, ring) {
-        0 if most_entries(journal) - (*length as usize) < ring.len() / 2 => 18,
+        0 if room.len() < ring.len() / 2 => 18,
         0 => {
             cut_all(table, ring);
-            for pair in ring.chunks_exact(2) {
-                write_entry(journal, length, [4, pair[0], pair[1]]);
+            for (pair, place) in ring.chunks_exact(2).zip(room) {
+                place.copy_from_slice(&[4, pair[0], pair[1]]);
             }
             0
         }
@@ -127,57 +128,76 @@ fn ring_cut_on(table: &mut [u16], journal: &mut [u16], length: &mut u32, ring: &
     }
 }
 
-pub fn ring_cut(table: &mut [u16], journal: &mut [u16], mut head: Head, ring: &[u16]) -> Journaled {
-    let number = match refusal(table, journal, &head) {
-        0 => ring_cut_on(table, journal, &mut head.length, ring),
-        refusal => refusal,
-    };
+/// Something on a table and the room of a journal, where neither table nor head is refused.
+#[inline]
+fn journaled(
+    table: &mut [u16],
+    journal: &mut [u16],
+    mut head: Head,
+    make: impl FnOnce(&mut [u16], &mut Room) -> u8,
+) -> Journaled {
+    let mut number = refusal(table, journal, &head);
+    if number == 0 {
+        let most = most_entries(journal);
+        let mut room = room(journal, head.length);
+        number = make(table, &mut room);
+        head.length = length(most, &room);
+    }
     Journaled { number, head }
+}
+
+pub fn change(table: &mut [u16], journal: &mut [u16], head: Head, change: Change) -> Journaled {
+    journaled(table, journal, head, |table, room| change_on(table, room, change))
+}
+
+pub fn ring_cut(table: &mut [u16], journal: &mut [u16], head: Head, ring: &[u16]) -> Journaled {
+    journaled(table, journal, head, |table, room| ring_cut_on(table, room, ring))
 }
 
 // TAPES
 
 /// Carries out the first command of a tape: its refusal, or 0, and its bytes.
-fn perform(table: &mut [u16], journal: &mut [u16], length: &mut u32, tape: &[u8]) -> (u8, usize) {
+fn perform(table: &mut [u16], room: &mut Room, tape: &[u8]) -> (u8, usize) {
     let word = |i: usize| number_at(tape, i);
-    let mut made = |change: Change| change_on(table, journal, length, change);
     match tape[0] {
-        1 if tape.len() >= 3 => (made(Change::Put(word(1))), 3),
-        2 if tape.len() >= 3 => (made(Change::TakeOut(word(1))), 3),
-        3 if tape.len() >= 5 => (made(Change::Join(Dimension::Tie, word(1), word(3))), 5),
-        4 if tape.len() >= 5 => (made(Change::Cut(Dimension::Tie, word(1), word(3))), 5),
-        5 if tape.len() >= 5 => (made(Change::Join(Dimension::Cell, word(1), word(3))), 5),
-        6 if tape.len() >= 5 => (made(Change::Cut(Dimension::Cell, word(1), word(3))), 5),
+        1 if tape.len() >= 3 => (change_on(table, room, Change::Put(word(1))), 3),
+        2 if tape.len() >= 3 => (change_on(table, room, Change::TakeOut(word(1))), 3),
+        3 if tape.len() >= 5 => (change_on(table, room, Change::Join(Dimension::Tie, word(1), word(3))), 5),
+        4 if tape.len() >= 5 => (change_on(table, room, Change::Cut(Dimension::Tie, word(1), word(3))), 5),
+        5 if tape.len() >= 5 => (change_on(table, room, Change::Join(Dimension::Cell, word(1), word(3))), 5),
+        6 if tape.len() >= 5 => (change_on(table, room, Change::Cut(Dimension::Cell, word(1), word(3))), 5),
         7 => (0, 1),
         _ => match command_size(tape) {
-            Ok(size) => (ring_cut_on(table, journal, length, ring_at(tape, &mut [0; 510])), size),
+            Ok(size) => (ring_cut_on(table, room, ring_at(tape, &mut [0; 510])), size),
             Err(number) => (number, 0),
         },
     }
 }
 
-fn run(table: &mut [u16], journal: &mut [u16], mut head: Head, tape: &[u8]) -> JournaledRun {
-    let (mut rest, mut accepted, mut length) = (tape, 0, head.length);
-    let mut number = 0;
+fn run(table: &mut [u16], room: &mut Room, tape: &[u8]) -> Run {
+    let (mut rest, mut accepted) = (tape, 0);
     while !rest.is_empty() {
-        let (refusal, size) = perform(table, journal, &mut length, rest);
-        if refusal != 0 {
-            number = refusal;
-            break;
+        let (number, size) = perform(table, room, rest);
+        if number != 0 {
+            return Run { number, accepted };
         }
         accepted += 1;
         rest = &rest[size..];
     }
-    head.length = length;
-    JournaledRun { number, accepted, head }
+    Run { number: 0, accepted }
 }
 
 pub fn play(table: &mut [u16], journal: &mut [u16], head: Head, tape: &[u8]) -> JournaledRun {
-    let number = if tape.len() > MAX_TAPE { 1 } else { refusal(table, journal, &head) };
-    match number {
-        0 => run(table, journal, head, tape),
-        _ => JournaledRun { number, accepted: 0, head },
+    if tape.len() > MAX_TAPE {
+        return JournaledRun { number: 1, accepted: 0, head };
     }
+    let mut accepted = 0;
+    let Journaled { number, head } = journaled(table, journal, head, |table, room| {
+        let run = run(table, room, tape);
+        accepted = run.accepted;
+        run.number
+    });
+    JournaledRun { number, accepted, head }
 }
 
 // CHECKPOINTS
