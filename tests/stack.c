@@ -1,7 +1,7 @@
 /* How much stack each call takes. Every call runs on a thread of its own, whose stack holds one byte everywhere. What
  * lies below the caller's frame and holds another byte afterwards was taken by the call, and by the C library's memset
- * for it. The table is full, the ring and the tape are as long as they may be, a journal has room for all their changes,
- * and each call is accepted. The program fails where a call takes more than LOTSKADI_CALL_STACK bytes. */
+ * for it. The table is full, ring and tape are as long as they may be, a journal has room for all their changes, and
+ * each call is accepted. The program fails where a call takes more than LOTSKADI_CALL_STACK bytes. */
 #define _POSIX_C_SOURCE 200809L
 
 #include <pthread.h>
