@@ -25,6 +25,7 @@ pub struct Met {
     pub rings_beside_handles: u64,
     /// Runs that went as their tape's needs said.
     pub foretold: u64,
+    /// What calls on journals met.
     pub journal: journal::Places,
 }
 
