@@ -30,7 +30,7 @@
  *
  * What is proved of a call holds for pointers as C may lend them: each pointer is valid for its length and aligned,
  * memory that is written overlaps no other memory of the call, and no other thread touches either meanwhile. Lengths
- * count words or bytes, as the name says. An empty list is any pointer, NULL too, with length 0.
+ * count words or bytes, as the name says. An empty list or journal is any pointer, NULL too, with length 0.
  *
  * The stack that a call takes is measured, not proved: LOTSKADI_CALL_STACK bytes suffice. On x86-64, with a full table
  * and the longest ring and tape, lotskadi_screen takes the most, 49,479 bytes, since its table lies there too;
