@@ -1,5 +1,6 @@
 /* Every function of the header: what it returns, and every lent word or byte afterwards. Each call is accepted at least
- * once, and each refusal met; a table of capacity 0 and empty lists are lent as NULL. For C11 and for C++17. */
+ * once, and each refusal met; a table of capacity 0, empty lists and an empty journal are lent as NULL. For C11 and for
+ * C++17. */
 #include <assert.h>
 
 #include "expect.h"
@@ -38,8 +39,27 @@ HAS_FIELD(lotskadi_needs, commands, 4, 8);
 HAS_FIELD(lotskadi_needs, peak, 4, 12);
 HAS_FIELD(lotskadi_needs, words, 4, 16);
 
+HAS_SIZE(lotskadi_head, 68);
+HAS_FIELD(lotskadi_head, checkpoints, 64, 0);
+HAS_FIELD(lotskadi_head, length, 4, 64);
+
+HAS_SIZE(lotskadi_journaled, 72);
+HAS_FIELD(lotskadi_journaled, number, 1, 0);
+HAS_FIELD(lotskadi_journaled, head, 68, 4);
+
+HAS_SIZE(lotskadi_journaled_run, 76);
+HAS_FIELD(lotskadi_journaled_run, number, 1, 0);
+HAS_FIELD(lotskadi_journaled_run, accepted, 4, 4);
+HAS_FIELD(lotskadi_journaled_run, head, 68, 8);
+
+HAS_SIZE(lotskadi_undone, 76);
+HAS_FIELD(lotskadi_undone, number, 1, 0);
+HAS_FIELD(lotskadi_undone, undone, 4, 4);
+HAS_FIELD(lotskadi_undone, head, 68, 8);
+
 static_assert(LOTSKADI_MAX_WORDS == 16384, "the words of the largest table");
 static_assert(LOTSKADI_SCREEN_ROOM == 53278, "the least buffer of the screen's call");
+static_assert(LOTSKADI_UNSET == UINT32_MAX, "an unset checkpoint");
 
 /* PLANS: the words of each dart in a row */
 
@@ -68,12 +88,12 @@ enum { RING_WORDS = sizeof square_ring / sizeof square_ring[0], TAPE_BYTES = siz
 
 /* WHAT IS LENT, and how often each number was returned */
 
-static struct lent_words table, ring, round_out;
+static struct lent_words table, ring, round_out, journal;
 static struct lent_bytes tape, tape_out;
-static int met[LOTSKADI_TORN_COMMAND + 1];
+static int met[LOTSKADI_NO_MARK + 1];
 
 static void note(uint8_t number) {
-    if (number <= LOTSKADI_TORN_COMMAND) {
+    if (number <= LOTSKADI_NO_MARK) {
         met[number]++;
     }
 }
@@ -105,7 +125,16 @@ enum call {
     FACE_ROUND,
     COMPONENT_MARKS,
     PLAY,
-    WRITE_TAPE
+    WRITE_TAPE,
+    JOURNAL_PUT,
+    JOURNAL_TAKE_OUT,
+    JOURNAL_EDGE_JOIN,
+    JOURNAL_VERTEX_JOIN,
+    JOURNAL_EDGE_CUT,
+    JOURNAL_VERTEX_CUT,
+    JOURNAL_RING_CUT,
+    JOURNAL_PLAY,
+    GO_BACK
 };
 
 static const struct {
@@ -131,10 +160,24 @@ static const struct {
     {"component_marks", 0},
     {"play", 0},
     {"write_tape", 0},
+    {"journal_put", 1},
+    {"journal_take_out", 1},
+    {"journal_edge_join", 2},
+    {"journal_vertex_join", 2},
+    {"journal_edge_cut", 2},
+    {"journal_vertex_cut", 2},
+    {"journal_ring_cut", 0},
+    {"journal_play", 0},
+    {"go_back", 0},
 };
 
 enum { CALLS = sizeof calls / sizeof calls[0] };
-static_assert(CALLS == WRITE_TAPE + 1, "a name for each call");
+static_assert(CALLS == GO_BACK + 1, "a name for each call");
+
+/* The journal that these calls are lent has room for JOURNAL_ENTRIES, and the head that they are given is `given`. */
+enum { JOURNAL_ENTRIES = 20, JOURNAL_WORDS = LOTSKADI_WORDS_PER_ENTRY * JOURNAL_ENTRIES };
+
+static struct lotskadi_head given;
 
 static uint8_t of_totals(struct lotskadi_totals totals) {
     const struct lotskadi_totals refused = {totals.number, 0, 0, 0, 0, 0, 0, 0, 0};
@@ -160,11 +203,35 @@ static uint8_t of_run(struct lotskadi_run run) {
     return run.number;
 }
 
+static uint8_t of_journaled(struct lotskadi_journaled journaled) {
+    if (journaled.number != 0) {
+        expect_head("a refused change returns the head as it came", journaled.head, given);
+    }
+    return journaled.number;
+}
+
+static uint8_t of_journaled_run(struct lotskadi_journaled_run run) {
+    const struct lotskadi_run refused = {run.number, 0};
+    if (run.number != 0) {
+        expect_journaled_run("a journaled run that is refused at once", run, refused, given);
+    }
+    return run.number;
+}
+
+static uint8_t of_undone(struct lotskadi_undone undone) {
+    if (undone.number != 0) {
+        expect_undone("a refused return undoes nothing", undone, undone.number, 0, given);
+    }
+    return undone.number;
+}
+
 static uint8_t called(enum call call, uint16_t *words, size_t count, uint32_t a, uint32_t b) {
     const uint16_t *links = lend_words(&ring, square_ring, RING_WORDS);
     const uint8_t *commands = lend_bytes(&tape, square_tape, TAPE_BYTES);
     uint16_t *darts = lend_words(&round_out, NULL, 0);
     uint8_t *written = lend_bytes(&tape_out, NULL, 0);
+    uint16_t *entries = lend_words(&journal, NULL, 0);
+    const size_t room = JOURNAL_WORDS;
     switch (call) {
     case PUT: return lotskadi_put(words, count, a);
     case TAKE_OUT: return lotskadi_take_out(words, count, a);
@@ -185,6 +252,18 @@ static uint8_t called(enum call call, uint16_t *words, size_t count, uint32_t a,
     case COMPONENT_MARKS: return of_answer(lotskadi_component_marks(words, count, darts, LOTSKADI_MAX_CAPACITY));
     case PLAY: return of_run(lotskadi_play(words, count, commands, TAPE_BYTES));
     case WRITE_TAPE: return of_answer(lotskadi_write_tape(words, count, written, LOTSKADI_TAPE_ROOM));
+    case JOURNAL_PUT: return of_journaled(lotskadi_journal_put(words, count, entries, room, given, a));
+    case JOURNAL_TAKE_OUT: return of_journaled(lotskadi_journal_take_out(words, count, entries, room, given, a));
+    case JOURNAL_EDGE_JOIN: return of_journaled(lotskadi_journal_edge_join(words, count, entries, room, given, a, b));
+    case JOURNAL_VERTEX_JOIN:
+        return of_journaled(lotskadi_journal_vertex_join(words, count, entries, room, given, a, b));
+    case JOURNAL_EDGE_CUT: return of_journaled(lotskadi_journal_edge_cut(words, count, entries, room, given, a, b));
+    case JOURNAL_VERTEX_CUT: return of_journaled(lotskadi_journal_vertex_cut(words, count, entries, room, given, a, b));
+    case JOURNAL_RING_CUT:
+        return of_journaled(lotskadi_journal_ring_cut(words, count, entries, room, given, links, RING_WORDS));
+    case JOURNAL_PLAY:
+        return of_journaled_run(lotskadi_journal_play(words, count, entries, room, given, commands, TAPE_BYTES));
+    case GO_BACK: return of_undone(lotskadi_go_back(words, count, entries, room, given, 0));
     }
     return UINT8_MAX;
 }
@@ -204,6 +283,7 @@ static void refused(const char *what, enum call call, const uint16_t *plan, size
     expect_words(name, &table, plan, words);
     expect_words(name, &round_out, NULL, 0);
     expect_bytes(name, &tape_out, NULL, 0);
+    expect_words(name, &journal, NULL, 0);
     expect_lists(name);
 }
 
@@ -230,7 +310,7 @@ static void refused_by_a_number(enum call call) {
 }
 
 static void refused_by_absence(enum call call) {
-    if (calls[call].darts >= 1 && call != PUT) {
+    if (calls[call].darts >= 1 && call != PUT && call != JOURNAL_PUT) {
         refused("the first dart is absent", call, square, WORDS, CAPACITY, 1, LOTSKADI_NO_TAB);
     }
     if (calls[call].darts == 2) {
@@ -240,14 +320,17 @@ static void refused_by_absence(enum call call) {
 
 /* Capacity 0 is a plan without darts: questions about all of it are answered, and every dart is off the table. */
 static void on_no_table(enum call call) {
-    bool whole = call == REPORT || call == COMPONENT_MARKS || call == WRITE_TAPE;
+    bool whole = call == REPORT || call == COMPONENT_MARKS || call == WRITE_TAPE || call == GO_BACK;
     expect_refusal(calls[call].name, called(call, NULL, 0, 1, 2), whole ? LOTSKADI_OK : LOTSKADI_OFF_THE_TABLE);
     expect_words(calls[call].name, &round_out, NULL, 0);
     expect_bytes(calls[call].name, &tape_out, NULL, 0);
+    expect_words(calls[call].name, &journal, NULL, 0);
     expect_lists(calls[call].name);
 }
 
+/* The head fits, and checkpoint 0 is set, so that going back is accepted. */
 static void refusals_of_all(void) {
+    given = with_checkpoint(lotskadi_empty_head(), 0, 0);
     for (int i = 0; i < CALLS; i++) {
         enum call call = (enum call)i;
         refused_by_the_table(call);
@@ -602,6 +685,258 @@ static void screens(void) {
     screened("no room", NULL, 0, 0, LOTSKADI_SHORT_ROOM);
 }
 
+/* JOURNALS; tests/journal.c has a sequence of them */
+
+enum { FIRST_JOURNALED = JOURNAL_PUT, LAST_JOURNALED = GO_BACK };
+
+/* The changes above once more, each behind an entry of no meaning: what is written is the entry, and no other word. */
+static const struct {
+    const char *what;
+    enum call call;
+    const uint16_t *before;
+    uint32_t a, b;
+    const uint16_t *after;
+    uint32_t length;
+    uint16_t entries[9];
+} journaled_changes[] = {
+    {"journaled put 5", JOURNAL_PUT, square, 5, 0, square_and_dart, 1, {1, 5, 0}},
+    {"journaled take out 5", JOURNAL_TAKE_OUT, square_and_dart, 5, 0, square, 1, {2, 5, 0}},
+    {"journaled edge join 1 3", JOURNAL_EDGE_JOIN, square, 1, 3, one_edge, 1, {3, 1, 3}},
+    {"journaled edge cut 1 3", JOURNAL_EDGE_CUT, one_edge, 1, 3, square, 1, {4, 1, 3}},
+    {"journaled vertex join 1 2", JOURNAL_VERTEX_JOIN, square, 1, 2, one_vertex, 1, {5, 1, 2}},
+    {"journaled vertex cut 1 2", JOURNAL_VERTEX_CUT, one_vertex, 1, 2, square, 1, {6, 1, 2}},
+    {"journaled ring cut 1 2 3 4", JOURNAL_RING_CUT, square, 0, 0, parted, 2, {4, 1, 2, 4, 3, 4}},
+};
+
+/* A journaled change, given this head, on a journal of so many words that hold FILLER_WORD. */
+static struct lotskadi_journaled journaled(enum call call, const uint16_t *plan, uint32_t a, uint32_t b,
+                                           struct lotskadi_head head, size_t room) {
+    uint16_t *words = lend_words(&table, plan, WORDS);
+    const uint16_t *links = lend_words(&ring, square_ring, RING_WORDS);
+    uint16_t *entries = lend_words(&journal, NULL, 0);
+    uint16_t *lent = room == 0 ? NULL : entries;
+    struct lotskadi_journaled none = {UINT8_MAX, head};
+    switch (call) {
+    case JOURNAL_PUT: return lotskadi_journal_put(words, WORDS, lent, room, head, a);
+    case JOURNAL_TAKE_OUT: return lotskadi_journal_take_out(words, WORDS, lent, room, head, a);
+    case JOURNAL_EDGE_JOIN: return lotskadi_journal_edge_join(words, WORDS, lent, room, head, a, b);
+    case JOURNAL_VERTEX_JOIN: return lotskadi_journal_vertex_join(words, WORDS, lent, room, head, a, b);
+    case JOURNAL_EDGE_CUT: return lotskadi_journal_edge_cut(words, WORDS, lent, room, head, a, b);
+    case JOURNAL_VERTEX_CUT: return lotskadi_journal_vertex_cut(words, WORDS, lent, room, head, a, b);
+    case JOURNAL_RING_CUT: return lotskadi_journal_ring_cut(words, WORDS, lent, room, head, links, RING_WORDS);
+    default: return none;
+    }
+}
+
+/* One row, behind so many entries, with room for as many words. */
+static void change_journaled(size_t row, uint32_t length, size_t room) {
+    const char *what = journaled_changes[row].what;
+    size_t start = LOTSKADI_WORDS_PER_ENTRY * length;
+    size_t end = start + LOTSKADI_WORDS_PER_ENTRY * journaled_changes[row].length;
+    bool fits = end <= room;
+    struct lotskadi_head head = with_checkpoint(head_of(length), 3, length);
+    struct lotskadi_head next = head;
+    uint16_t expected[JOURNAL_WORDS];
+    memset(expected, FILLER, sizeof expected);
+    if (fits) {
+        next.length += journaled_changes[row].length;
+        memcpy(expected + start, journaled_changes[row].entries, (end - start) * sizeof expected[0]);
+    }
+    struct lotskadi_journaled answer = journaled(journaled_changes[row].call, journaled_changes[row].before,
+                                                 journaled_changes[row].a, journaled_changes[row].b, head, room);
+    expect_journaled(what, answer, fits ? LOTSKADI_OK : LOTSKADI_JOURNAL_FULL, next);
+    expect_words(what, &table, fits ? journaled_changes[row].after : journaled_changes[row].before, WORDS);
+    expect_words(what, &journal, expected, JOURNAL_WORDS);
+    expect_words(what, &ring, square_ring, RING_WORDS);
+    note(answer.number);
+}
+
+static void changes_journaled(void) {
+    for (size_t i = 0; i < sizeof journaled_changes / sizeof journaled_changes[0]; i++) {
+        for (size_t room = 0; room <= JOURNAL_WORDS; room++) {
+            change_journaled(i, 0, room);
+        }
+        for (size_t room = 6; room <= 15; room++) {
+            change_journaled(i, 2, room);
+        }
+    }
+}
+
+/* Heads that do not fit a journal of JOURNAL_WORDS. */
+static void heads_refused(void) {
+    const struct lotskadi_head unfit[] = {
+        head_of(JOURNAL_ENTRIES + 1),
+        head_of(1431655766), /* three times this is 2 in 32 bits */
+        head_of(LOTSKADI_UNSET - 1),
+        head_of(LOTSKADI_UNSET),
+        with_checkpoint(head_of(2), 0, 3),
+        with_checkpoint(head_of(2), 15, 3),
+        with_checkpoint(head_of(2), 7, LOTSKADI_UNSET - 1),
+    };
+    for (size_t i = 0; i < sizeof unfit / sizeof unfit[0]; i++) {
+        given = unfit[i];
+        for (int call = FIRST_JOURNALED; call <= LAST_JOURNALED; call++) {
+            refused("a head that does not fit", (enum call)call, square, WORDS, 1, 2, LOTSKADI_UNDO_UNFIT);
+            refused("a head and dart 0", (enum call)call, square, WORDS, 0, 0, LOTSKADI_UNDO_UNFIT);
+            refused("a head and a bent table", (enum call)call, bent, WORDS, 1, 2, LOTSKADI_BENT_TABLE);
+            refused("a head and a word less", (enum call)call, square, WORDS - 1, 1, 2, LOTSKADI_WRONG_SIZE);
+        }
+        const uint16_t *entries = lend_words(&journal, NULL, 0);
+        expect_journaled("setting a checkpoint: a head that does not fit",
+                         lotskadi_set_checkpoint(entries, JOURNAL_WORDS, given, 16), LOTSKADI_UNDO_UNFIT, given);
+        expect_words("setting a checkpoint", &journal, NULL, 0);
+    }
+}
+
+/* A change's own refusal comes before a full journal. */
+static void refused_before_full(void) {
+    static const struct {
+        enum call call;
+        uint32_t a, b;
+        uint8_t expected;
+    } rows[] = {
+        {JOURNAL_PUT, 1, 0, LOTSKADI_TAB_TAKEN},
+        {JOURNAL_TAKE_OUT, 1, 0, LOTSKADI_TAB_HELD},
+        {JOURNAL_EDGE_JOIN, 1, 2, LOTSKADI_TOGETHER},
+        {JOURNAL_VERTEX_JOIN, 1, 3, LOTSKADI_TOGETHER},
+        {JOURNAL_EDGE_CUT, 1, 3, LOTSKADI_APART},
+        {JOURNAL_VERTEX_CUT, 1, 1, LOTSKADI_SAME_TAB},
+    };
+    for (size_t i = 0; i < sizeof rows / sizeof rows[0]; i++) {
+        struct lotskadi_journaled answer =
+            journaled(rows[i].call, square, rows[i].a, rows[i].b, lotskadi_empty_head(), 0);
+        expect_journaled("a refusal before a full journal", answer, rows[i].expected, lotskadi_empty_head());
+        expect_words("a refusal before a full journal", &table, square, WORDS);
+    }
+}
+
+static void rings_refused_by_journal(void) {
+    for (size_t i = 0; i < sizeof rings / sizeof rings[0]; i++) {
+        uint16_t *words = lend_words(&table, square, WORDS);
+        const uint16_t *links = lend_words(&ring, rings[i].links, rings[i].words);
+        const uint16_t *lent = rings[i].words == 0 ? NULL : links;
+        struct lotskadi_head head = lotskadi_empty_head();
+        expect_journaled(rings[i].what, lotskadi_journal_ring_cut(words, WORDS, NULL, 0, head, lent, rings[i].words),
+                         rings[i].refusal, head);
+        expect_words(rings[i].what, &table, square, WORDS);
+        expect_words(rings[i].what, &ring, rings[i].links, rings[i].words);
+    }
+}
+
+/* How many of the entries of a tape are made before it stops, by the row of `tapes`. */
+static const uint16_t square_entries[] = {1, 1, 0, 1, 2, 0, 1, 3, 0, 1, 4, 0, 3, 1, 2, 3, 3, 4, 5, 1, 3, 5, 2, 4};
+static const uint16_t all_entries[] = {
+    1, 1, 0, 1, 2, 0, 1, 3, 0, 1, 4, 0, 3, 1, 2, 3, 3, 4, 5, 1, 3, 5, 2, 4,
+    4, 1, 2, 3, 1, 2, 6, 1, 3, 5, 1, 3, 1, 5, 0, 2, 5, 0, 4, 1, 2, 4, 3, 4,
+};
+static const uint32_t entries_of_tapes[] = {0, 8, 16, 0, 8, 1, 1, 1, 1, 0};
+static_assert(sizeof entries_of_tapes / sizeof entries_of_tapes[0] == sizeof tapes / sizeof tapes[0], "a number each");
+
+static void tapes_journaled(void) {
+    for (size_t i = 0; i < sizeof tapes / sizeof tapes[0]; i++) {
+        uint16_t *words = lend_words(&table, empty, WORDS);
+        uint16_t *entries = lend_words(&journal, NULL, 0);
+        const uint8_t *lent = lend_bytes(&tape, tapes[i].tape, tapes[i].bytes);
+        const uint8_t *bytes = tapes[i].tape == NULL ? NULL : lent;
+        struct lotskadi_journaled_run run = lotskadi_journal_play(words, WORDS, entries, JOURNAL_WORDS,
+                                                                  lotskadi_empty_head(), bytes, tapes[i].bytes);
+        expect_journaled_run(tapes[i].what, run, tapes[i].run, head_of(entries_of_tapes[i]));
+        expect_words(tapes[i].what, &table, tapes[i].after, WORDS);
+        expect_words(tapes[i].what, &journal, all_entries, LOTSKADI_WORDS_PER_ENTRY * entries_of_tapes[i]);
+        expect_bytes(tapes[i].what, &tape, tapes[i].tape, tapes[i].bytes);
+    }
+    const struct lotskadi_run nothing = {0, 0};
+    expect_journaled_run("no tape, no table, no journal",
+                         lotskadi_journal_play(NULL, 0, NULL, 0, lotskadi_empty_head(), NULL, 0), nothing, head_of(0));
+}
+
+/* A tape's ring of two double-links, and room for one of them: the run stops there. */
+static void tape_fills_journal(void) {
+    enum { ENTRIES = 15 };
+    const struct lotskadi_run full = {LOTSKADI_JOURNAL_FULL, 15};
+    uint16_t *words = lend_words(&table, empty, WORDS);
+    uint16_t *entries = lend_words(&journal, NULL, 0);
+    const uint8_t *bytes = lend_bytes(&tape, all_commands, sizeof all_commands);
+    struct lotskadi_journaled_run run =
+        lotskadi_journal_play(words, WORDS, entries, LOTSKADI_WORDS_PER_ENTRY * ENTRIES, lotskadi_empty_head(), bytes,
+                              sizeof all_commands);
+    expect_journaled_run("a ring that does not fit", run, full, head_of(ENTRIES - 1));
+    expect_words("a ring that does not fit", &table, square, WORDS);
+    expect_words("a ring that does not fit", &journal, all_entries, LOTSKADI_WORDS_PER_ENTRY * (ENTRIES - 1));
+}
+
+/* CHECKPOINTS */
+
+static void checkpoints_set(void) {
+    const uint16_t *entries = lend_words(&journal, square_entries, JOURNAL_WORDS / 3);
+    struct lotskadi_head head = with_checkpoint(head_of(6), 4, 2);
+    for (uint32_t checkpoint = 0; checkpoint < LOTSKADI_CHECKPOINTS; checkpoint++) {
+        expect_journaled("setting a checkpoint, or moving it",
+                         lotskadi_set_checkpoint(entries, JOURNAL_WORDS, head, checkpoint), LOTSKADI_OK,
+                         with_checkpoint(head, (int)checkpoint, 6));
+    }
+    static const uint32_t above[] = {16, 17, 65536, UINT32_MAX};
+    for (size_t i = 0; i < sizeof above / sizeof above[0]; i++) {
+        struct lotskadi_journaled answer = lotskadi_set_checkpoint(entries, JOURNAL_WORDS, head, above[i]);
+        expect_journaled("a checkpoint above 15", answer, LOTSKADI_NO_MARK, head);
+        note(answer.number);
+    }
+    expect_words("checkpoints", &journal, square_entries, JOURNAL_WORDS / 3);
+    head = lotskadi_empty_head();
+    expect_journaled("a checkpoint of no journal", lotskadi_set_checkpoint(NULL, 0, head, 15), LOTSKADI_OK,
+                     with_checkpoint(head, 15, 0));
+}
+
+/* Going back from the square, whose entries these are, with one word of them replaced; what is left of the length. */
+static void gone_back(const char *what, size_t place, uint16_t word, uint32_t checkpoint, uint8_t number,
+                      uint32_t undone) {
+    enum { LENGTH = 8, WORDS_USED = LOTSKADI_WORDS_PER_ENTRY * LENGTH };
+    uint16_t spoilt[WORDS_USED];
+    memcpy(spoilt, square_entries, sizeof spoilt);
+    spoilt[place] = word;
+    struct lotskadi_head head = head_of(LENGTH), expected;
+    for (int i = 0; i <= LENGTH; i++) {
+        head.checkpoints[i] = (uint32_t)i;
+    }
+    expected = head;
+    expected.length -= undone;
+    for (uint32_t i = expected.length + 1; i <= LENGTH; i++) {
+        expected.checkpoints[i] = LOTSKADI_UNSET;
+    }
+    uint16_t *words = lend_words(&table, square, WORDS);
+    const uint16_t *entries = lend_words(&journal, spoilt, WORDS_USED);
+    struct lotskadi_undone answer = lotskadi_go_back(words, WORDS, entries, WORDS_USED, head, checkpoint);
+    expect_undone(what, answer, number, undone, expected);
+    expect_words(what, &journal, spoilt, WORDS_USED);
+    note(answer.number);
+    /* the commands up to there make the same table */
+    uint16_t plan[WORDS] = {0};
+    lotskadi_play(plan, WORDS, square_tape, (size_t)(expected.length < 4 ? 3 * expected.length
+                                                                         : 12 + 5 * (expected.length - 4)));
+    expect_words(what, &table, plan, WORDS);
+}
+
+static void checkpoints_gone_back_to(void) {
+    for (uint32_t checkpoint = 0; checkpoint <= 8; checkpoint++) {
+        gone_back("going back", 0, 1, checkpoint, LOTSKADI_OK, 8 - checkpoint);
+    }
+    gone_back("an unset checkpoint", 0, 1, 9, LOTSKADI_NO_MARK, 0);
+    gone_back("checkpoint 16", 0, 1, 16, LOTSKADI_NO_MARK, 0);
+    gone_back("checkpoint 4,294,967,295", 0, 1, UINT32_MAX, LOTSKADI_NO_MARK, 0);
+    gone_back("an unset checkpoint before an undo", 21, 0, 9, LOTSKADI_NO_MARK, 0);
+    gone_back("byte 0", 12, 0, 0, LOTSKADI_UNDO_UNFIT, 3);
+    gone_back("byte 7", 12, 7, 0, LOTSKADI_UNDO_UNFIT, 3);
+    gone_back("a word of which a byte is 3", 12, 256 + 3, 0, LOTSKADI_UNDO_UNFIT, 3);
+    gone_back("a word of which a byte is 1", 9, 256 + 1, 0, LOTSKADI_UNDO_UNFIT, 4);
+    gone_back("an operand that put lacks", 11, 1, 0, LOTSKADI_UNDO_UNFIT, 4);
+    gone_back("an operand off the table", 13, 0, 0, LOTSKADI_UNDO_UNFIT, 3);
+    gone_back("an operand that is absent", 23, CAPACITY, 0, LOTSKADI_UNDO_UNFIT, 0);
+    gone_back("a cut of two vertices", 23, 3, 0, LOTSKADI_UNDO_UNFIT, 0);
+    gone_back("a spoilt entry below the checkpoint", 12, 0, 5, LOTSKADI_OK, 3);
+    struct lotskadi_head head = with_checkpoint(lotskadi_empty_head(), 0, 0);
+    expect_undone("no table and no journal", lotskadi_go_back(NULL, 0, NULL, 0, head, 0), LOTSKADI_OK, 0, head);
+}
+
 /* WORDS */
 
 static const struct {
@@ -625,7 +960,10 @@ static const struct {
     {LOTSKADI_SHORT_ROOM, "short room"},
     {LOTSKADI_UNKNOWN_COMMAND, "unknown command"},
     {LOTSKADI_TORN_COMMAND, "torn command"},
-    {LOTSKADI_TORN_COMMAND + 1, "unknown refusal"},
+    {LOTSKADI_UNDO_UNFIT, "undo doesn't fit"},
+    {LOTSKADI_JOURNAL_FULL, "journal full"},
+    {LOTSKADI_NO_MARK, "no mark"},
+    {LOTSKADI_NO_MARK + 1, "unknown refusal"},
     {UINT8_MAX, "unknown refusal"},
     {UINT32_MAX, "unknown refusal"},
 };
@@ -638,7 +976,7 @@ static void refusals_in_words(void) {
 }
 
 static void every_refusal_met(void) {
-    for (uint32_t number = 0; number <= LOTSKADI_TORN_COMMAND; number++) {
+    for (uint32_t number = 0; number <= LOTSKADI_NO_MARK; number++) {
         if (met[number] == 0) {
             failures++;
             printf("FAILED: refusal %u, %s, was never met\n", (unsigned)number, lotskadi_refusal_word(number));
@@ -661,6 +999,14 @@ int main(void) {
     tapes_played();
     tapes_written();
     screens();
+    changes_journaled();
+    heads_refused();
+    refused_before_full();
+    rings_refused_by_journal();
+    tapes_journaled();
+    tape_fills_journal();
+    checkpoints_set();
+    checkpoints_gone_back_to();
     every_refusal_met();
     return outcome();
 }

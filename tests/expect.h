@@ -62,6 +62,33 @@ static inline void expect_needs(const char *what, struct lotskadi_needs needs, s
     expect_number(what, needs.words, expected.words);
 }
 
+static inline void expect_head(const char *what, struct lotskadi_head head, struct lotskadi_head expected) {
+    for (size_t i = 0; i < LOTSKADI_CHECKPOINTS; i++) {
+        expect_number(what, head.checkpoints[i], expected.checkpoints[i]);
+    }
+    expect_number(what, head.length, expected.length);
+}
+
+static inline void expect_journaled(const char *what, struct lotskadi_journaled journaled, uint8_t number,
+                                    struct lotskadi_head head) {
+    expect_number(what, journaled.number, number);
+    expect_head(what, journaled.head, head);
+}
+
+static inline void expect_journaled_run(const char *what, struct lotskadi_journaled_run run,
+                                        struct lotskadi_run expected, struct lotskadi_head head) {
+    expect_number(what, run.number, expected.number);
+    expect_number(what, run.accepted, expected.accepted);
+    expect_head(what, run.head, head);
+}
+
+static inline void expect_undone(const char *what, struct lotskadi_undone undone, uint8_t number, uint32_t count,
+                                 struct lotskadi_head head) {
+    expect_number(what, undone.number, number);
+    expect_number(what, undone.undone, count);
+    expect_head(what, undone.head, head);
+}
+
 /* What the program returns. */
 static inline int outcome(void) {
     printf("%s\n", failures == 0 ? "all as expected" : "failed");
@@ -123,6 +150,19 @@ static inline void expect_bytes(const char *what, const struct lent_bytes *lent,
             return;
         }
     }
+}
+
+/* HEADS of a journal */
+
+static inline struct lotskadi_head head_of(uint32_t length) {
+    struct lotskadi_head head = lotskadi_empty_head();
+    head.length = length;
+    return head;
+}
+
+static inline struct lotskadi_head with_checkpoint(struct lotskadi_head head, int checkpoint, uint32_t length) {
+    head.checkpoints[checkpoint] = length;
+    return head;
 }
 
 /* THE SCREEN'S BUFFER */

@@ -1,7 +1,7 @@
 /* How much stack each call takes. Every call runs on a thread of its own, whose stack holds one byte everywhere. What
  * lies below the caller's frame and holds another byte afterwards was taken by the call, and by the C library's memset
- * for it. The table is full, the ring and the tape are as long as they may be, and each call is accepted. The program
- * fails where a call takes more than LOTSKADI_CALL_STACK bytes. */
+ * for it. The table is full, ring and tape are as long as they may be, a journal has room for all their changes, and
+ * each call is accepted. The program fails where a call takes more than LOTSKADI_CALL_STACK bytes. */
 #define _POSIX_C_SOURCE 200809L
 
 #include <pthread.h>
@@ -15,14 +15,18 @@ enum {
     CLEAN = 0xA5, /* the byte of a stack that nobody has used */
     CAPACITY = LOTSKADI_MAX_CAPACITY,
     WORDS = LOTSKADI_MAX_WORDS,
-    TAPE_LINKS = 255, /* double-links that a ring on a tape may have */
-    EDGE = 0,         /* place of the edge successor among a dart's words */
-    VERTEX = 2        /* place of the vertex successor */
+    TAPE_LINKS = 255,                /* double-links that a ring on a tape may have */
+    ENTRIES = LOTSKADI_MAX_TAPE / 3, /* entries for every change that a tape may make */
+    ROOM = LOTSKADI_WORDS_PER_ENTRY * ENTRIES,
+    EDGE = 0,  /* place of the edge successor among a dart's words */
+    VERTEX = 2 /* place of the vertex successor */
 };
 
 static uint16_t table[WORDS];
 static uint16_t ring[LOTSKADI_MAX_RING];
 static uint16_t out_words[CAPACITY];
+static uint16_t journal[ROOM];
+static struct lotskadi_head head;
 static uint8_t tape[LOTSKADI_MAX_TAPE];
 static uint8_t out[LOTSKADI_SCREEN_ROOM];
 
@@ -96,6 +100,38 @@ static void empty_and_tape(void) {
     memset(table, 0, sizeof table);
 }
 
+/* An empty journal, whose checkpoint 0 is set. */
+static void empty_journal(void) {
+    head = lotskadi_empty_head();
+    head.checkpoints[0] = 0;
+}
+
+static void all_but_one_journaled(void) {
+    all_but_one();
+    empty_journal();
+}
+
+static void all_alone_journaled(void) {
+    all_alone();
+    empty_journal();
+}
+
+static void full_journaled(void) {
+    full();
+    empty_journal();
+}
+
+static void tape_journaled(void) {
+    empty_and_tape();
+    empty_journal();
+}
+
+/* What a journaled run has left, to be gone back over. */
+static void after_tape(void) {
+    tape_journaled();
+    head = lotskadi_journal_play(table, WORDS, journal, ROOM, head, tape, sizeof tape).head;
+}
+
 /* CALLS: whether each is accepted */
 
 static bool nothing(void) { return true; }
@@ -120,6 +156,35 @@ static bool play(void) { return lotskadi_play(table, WORDS, tape, sizeof tape).n
 static bool tape_needs(void) { return lotskadi_tape_needs(tape, sizeof tape).number == 0; }
 static bool write_tape(void) { return lotskadi_write_tape(table, WORDS, out, sizeof out).number == 0; }
 static bool screen(void) { return lotskadi_screen(tape, sizeof tape, out, sizeof out) == 0 && out[0] == 0; }
+
+static bool journal_put(void) {
+    return lotskadi_journal_put(table, WORDS, journal, ROOM, head, CAPACITY).number == 0;
+}
+static bool journal_take_out(void) {
+    return lotskadi_journal_take_out(table, WORDS, journal, ROOM, head, CAPACITY).number == 0;
+}
+static bool journal_edge_join(void) {
+    return lotskadi_journal_edge_join(table, WORDS, journal, ROOM, head, 1, CAPACITY).number == 0;
+}
+static bool journal_vertex_join(void) {
+    return lotskadi_journal_vertex_join(table, WORDS, journal, ROOM, head, 1, CAPACITY).number == 0;
+}
+static bool journal_edge_cut(void) {
+    return lotskadi_journal_edge_cut(table, WORDS, journal, ROOM, head, 1, 2).number == 0;
+}
+static bool journal_vertex_cut(void) {
+    return lotskadi_journal_vertex_cut(table, WORDS, journal, ROOM, head, 1, CAPACITY - 1).number == 0;
+}
+static bool journal_ring_cut(void) {
+    return lotskadi_journal_ring_cut(table, WORDS, journal, ROOM, head, ring, LOTSKADI_MAX_RING).number == 0;
+}
+static bool journal_play(void) {
+    return lotskadi_journal_play(table, WORDS, journal, ROOM, head, tape, sizeof tape).number == 0;
+}
+static bool set_checkpoint(void) { return lotskadi_set_checkpoint(journal, ROOM, head, 15).number == 0; }
+static bool go_back(void) {
+    return head.length > 0 && lotskadi_go_back(table, WORDS, journal, ROOM, head, 0).number == 0;
+}
 
 struct row {
     const char *name;
@@ -150,6 +215,16 @@ static const struct row rows[] = {
     {"tape_needs", longest_tape, tape_needs},
     {"write_tape", full, write_tape},
     {"screen", longest_tape, screen},
+    {"journal_put", all_but_one_journaled, journal_put},
+    {"journal_take_out", all_alone_journaled, journal_take_out},
+    {"journal_edge_join", all_alone_journaled, journal_edge_join},
+    {"journal_vertex_join", all_alone_journaled, journal_vertex_join},
+    {"journal_edge_cut", full_journaled, journal_edge_cut},
+    {"journal_vertex_cut", full_journaled, journal_vertex_cut},
+    {"journal_ring_cut", full_journaled, journal_ring_cut},
+    {"journal_play", tape_journaled, journal_play},
+    {"set_checkpoint", after_tape, set_checkpoint},
+    {"go_back", after_tape, go_back},
 };
 
 /* MEASURING */
@@ -193,7 +268,7 @@ int main(void) {
             printf("FAILED: %s is not measured\n", rows[i].name);
             return 1;
         }
-        printf("%-16s %6zu\n", rows[i].name, measured.bytes);
+        printf("%-19s %6zu\n", rows[i].name, measured.bytes);
         if (measured.bytes > greatest.bytes) {
             greatest = measured;
             name = rows[i].name;

@@ -57,6 +57,8 @@ macro_rules! declarations {
     };
 }
 
+pub mod journal;
+
 macro_rules! one_dart_commands {
     ($($name:ident),*) => {$(
         pub fn $name(table: &mut [u16], dart: u32) -> u8 {

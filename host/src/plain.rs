@@ -3,6 +3,8 @@
 
 use crate::binding::{Answer, Needs, Run, Totals};
 
+pub mod journal;
+
 const MAX_WORDS: usize = 16_384;
 const MAX_TAPE: usize = 65_536;
 
@@ -296,49 +298,68 @@ fn set_all(table: &mut [u16], tab: u16, word: u16) {
     table[at(tab)..at(tab) + 4].fill(word);
 }
 
-fn put_on(table: &mut [u16], tab: u16) -> u8 {
+fn put_refusal(table: &[u16], tab: u16) -> u8 {
     if tab == 0 || tab as usize > table.len() / 4 {
-        return 3;
+        3
+    } else if is_present(table, tab) {
+        5
+    } else {
+        0
     }
-    if is_present(table, tab) {
-        return 5;
-    }
-    set_all(table, tab, tab);
-    0
 }
 
-fn take_out_on(table: &mut [u16], tab: u16) -> u8 {
+fn take_out_refusal(table: &[u16], tab: u16) -> u8 {
     match presence(table, &[tab]) {
         0 if tie_step(table, tab) != tab || cell_step(table, tab) != tab => 6,
-        0 => {
-            set_all(table, tab, 0);
-            0
-        }
         refusal => refusal,
     }
 }
 
-fn join_on(table: &mut [u16], dimension: Dimension, a: u16, b: u16) -> u8 {
+fn join_refusal(table: &[u16], dimension: Dimension, a: u16, b: u16) -> u8 {
     match presence(table, &[a, b]) {
         0 if together(table, dimension, a, b) => 7,
-        0 => {
-            swap(table, dimension, a, b);
-            0
-        }
         refusal => refusal,
     }
 }
 
-fn cut_on(table: &mut [u16], dimension: Dimension, a: u16, b: u16) -> u8 {
+fn cut_refusal(table: &[u16], dimension: Dimension, a: u16, b: u16) -> u8 {
     match presence(table, &[a, b]) {
         0 if !together(table, dimension, a, b) => 8,
         0 if a == b => 9,
-        0 => {
-            swap(table, dimension, a, b);
-            0
-        }
         refusal => refusal,
     }
+}
+
+fn put_on(table: &mut [u16], tab: u16) -> u8 {
+    let refusal = put_refusal(table, tab);
+    if refusal == 0 {
+        set_all(table, tab, tab);
+    }
+    refusal
+}
+
+fn take_out_on(table: &mut [u16], tab: u16) -> u8 {
+    let refusal = take_out_refusal(table, tab);
+    if refusal == 0 {
+        set_all(table, tab, 0);
+    }
+    refusal
+}
+
+fn join_on(table: &mut [u16], dimension: Dimension, a: u16, b: u16) -> u8 {
+    let refusal = join_refusal(table, dimension, a, b);
+    if refusal == 0 {
+        swap(table, dimension, a, b);
+    }
+    refusal
+}
+
+fn cut_on(table: &mut [u16], dimension: Dimension, a: u16, b: u16) -> u8 {
+    let refusal = cut_refusal(table, dimension, a, b);
+    if refusal == 0 {
+        swap(table, dimension, a, b);
+    }
+    refusal
 }
 
 pub fn put(table: &mut [u16], tab: u16) -> u8 {
@@ -400,12 +421,16 @@ fn ring_refusal(table: &[u16], ring: &[u16]) -> u8 {
     0
 }
 
+fn cut_all(table: &mut [u16], ring: &[u16]) {
+    for pair in ring.chunks_exact(2) {
+        swap(table, Dimension::Tie, pair[0], pair[1]);
+    }
+}
+
 fn ring_cut_on(table: &mut [u16], ring: &[u16]) -> u8 {
     let refusal = ring_refusal(table, ring);
     if refusal == 0 {
-        for pair in ring.chunks_exact(2) {
-            swap(table, Dimension::Tie, pair[0], pair[1]);
-        }
+        cut_all(table, ring);
     }
     refusal
 }
@@ -441,13 +466,17 @@ fn command_size(tape: &[u8]) -> Result<usize, u8> {
     }
 }
 
-fn ring_on_tape(table: &mut [u16], tape: &[u8]) -> u8 {
-    let mut words = [0; 510];
-    let count = 2 * tape[1] as usize;
-    for (word, pair) in words[..count].iter_mut().zip(tape[2..].chunks_exact(2)) {
+/// The words of a ring's list on a tape.
+fn ring_at<'a>(tape: &[u8], words: &'a mut [u16; 510]) -> &'a [u16] {
+    let list = &mut words[..2 * tape[1] as usize];
+    for (word, pair) in list.iter_mut().zip(tape[2..].chunks_exact(2)) {
         *word = u16::from_le_bytes([pair[0], pair[1]]);
     }
-    ring_cut_on(table, &words[..count])
+    list
+}
+
+fn ring_on_tape(table: &mut [u16], tape: &[u8]) -> u8 {
+    ring_cut_on(table, ring_at(tape, &mut [0; 510]))
 }
 
 /// Carries out the first command of a tape: its refusal, or 0, and its bytes. A size is judged in the command's own

@@ -1,17 +1,25 @@
 //! The rows of the benchmark: each row fails where the two sides differ.
 
-use lotskadi_host::measuring::rows::{rows, Row};
+use lotskadi_host::measuring::plans::Plans;
+use lotskadi_host::measuring::rows::{journal_rows, rows, Row};
 use lotskadi_host::measuring::sides::{Kernel, Plain};
 use lotskadi_host::testing::random::Random;
 
 fn measured(capacity: usize) -> Vec<Row> {
-    rows::<Kernel, Plain>(&mut Random::new(1), capacity, 1)
+    rows::<Kernel, Plain>(&Plans::new(&mut Random::new(1), capacity), 1)
 }
 
 #[test]
 fn kernel_and_plain_rust_agree() {
     let rows = measured(4096);
     assert_eq!(rows.len(), 14);
+    assert!(rows.iter().all(|row| row.ours > 0.0 && row.theirs > 0.0));
+}
+
+#[test]
+fn kernel_and_plain_rust_agree_on_journals() {
+    let rows = journal_rows::<Kernel, Plain>(&Plans::new(&mut Random::new(1), 4096), 1);
+    assert_eq!(rows.len(), 3);
     assert!(rows.iter().all(|row| row.ours > 0.0 && row.theirs > 0.0));
 }
 

@@ -81,10 +81,26 @@ components_from_c() {
     c_program tests/components.c target/components && target/components
 }
 
+journal_from_c() {
+    c_program tests/journal.c target/journal && target/journal
+}
+
+journal_under_valgrind() {
+    under_valgrind target/journal
+}
+
 planner_in_c() {
     c_program examples/planner.c target/planner && target/planner | cmp - examples/planner.expected
 }
 
 planner_under_valgrind() {
     under_valgrind target/planner > /dev/null
+}
+
+journal_example() {
+    c_program examples/journal.c target/journal-example && target/journal-example | cmp - examples/journal.expected
+}
+
+journal_example_under_valgrind() {
+    under_valgrind target/journal-example > /dev/null
 }

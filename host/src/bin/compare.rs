@@ -4,15 +4,26 @@
 //!
 //!     compare SEED
 
-use lotskadi_host::measuring::rows::rows;
+use lotskadi_host::measuring::plans::Plans;
+#[cfg(feature = "compare-journal")]
+use lotskadi_host::measuring::rows::journal_rows;
+use lotskadi_host::measuring::rows::{rows, Row};
 use lotskadi_host::measuring::sides::{Before, Kernel};
 use lotskadi_host::testing::random::Random;
 
 const ROUNDS: usize = 400;
 
-fn main() {
-    let seed = std::env::args().nth(1).and_then(|seed| seed.parse().ok()).expect("a seed");
-    for row in rows::<Kernel, Before>(&mut Random::new(seed), 4096, ROUNDS) {
+fn print(rows: &[Row]) {
+    for row in rows {
         println!("{:.4}\t{:.4}\t{}", row.theirs, row.ours, row.name);
     }
+}
+
+fn main() {
+    let seed = std::env::args().nth(1).and_then(|seed| seed.parse().ok()).expect("a seed");
+    let plans = Plans::new(&mut Random::new(seed), 4096);
+    print(&rows::<Kernel, Before>(&plans, ROUNDS));
+    // only with an older library that has these calls
+    #[cfg(feature = "compare-journal")]
+    print(&journal_rows::<Kernel, Before>(&plans, ROUNDS));
 }

@@ -1,4 +1,5 @@
-//! The sixteen refusals: number, word, and what was wrong.
+//! Document 01's sixteen refusals: number, word, and what was wrong. Those of document 02 are about journals, and no
+//! tape that is played without one meets them.
 
 pub struct Refusal {
     pub number: u8,

@@ -2,6 +2,7 @@
 //! are the same for any two sides.
 
 pub mod calls;
+pub mod journal;
 pub mod plans;
 pub mod rows;
 pub mod sides;

@@ -15,6 +15,7 @@ pub type Words = Vec<u16>;
 
 /// The plans of one capacity that rows rotate, as tables and tapes.
 pub struct Plans {
+    pub capacity: usize,
     /// One grid, numbered row by row.
     pub grid: Vec<Words>,
     /// The same grid, numbered at random.
@@ -39,6 +40,7 @@ impl Plans {
         let pieces = rotation(|| renamed(random, &many));
         let gaps = rotation(|| one_gap(random, capacity));
         Plans {
+            capacity,
             grid: words(&[grid_plan]),
             random: words(&randoms),
             pieces: words(&pieces),

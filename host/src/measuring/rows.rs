@@ -1,10 +1,10 @@
 //! The rows of a table of times: what is called, and on which plans.
 
 use crate::measuring::calls::{self, Room};
+use crate::measuring::journal;
 use crate::measuring::plans::{dipole, two_tabs, Plans};
-use crate::measuring::sides::Side;
+use crate::measuring::sides::{JournalSide, Side};
 use crate::measuring::timing::{medians, Timed};
-use crate::testing::random::Random;
 
 /// Microseconds of one call by both sides.
 pub struct Row {
@@ -29,6 +29,10 @@ struct Pass {
 }
 
 impl Pass {
+    fn new(capacity: usize, rounds: usize) -> Pass {
+        Pass { rounds, our_room: Room::new(capacity), their_room: Room::new(capacity), rows: vec![] }
+    }
+
     /// Adds a row, after a call by each side on each input. Answers and lent words of the two sides must be equal.
     fn row<I, L: PartialEq, A: PartialEq>(
         &mut self,
@@ -51,32 +55,44 @@ impl Pass {
     }
 }
 
-/// All rows once, on plans of one capacity. Each time is the median of as many calls as there are rounds.
-pub fn rows<Ours: Side, Theirs: Side>(random: &mut Random, capacity: usize, rounds: usize) -> Vec<Row> {
-    let plans = Plans::new(random, capacity);
+/// A row of a call that is written once for any side.
+macro_rules! row {
+    ($pass:ident, $name:expr, $inputs:expr, $($call:ident)::+) => {
+        $pass.row($name, $inputs, $($call)::+::<Ours>, $($call)::+::<Theirs>)
+    };
+}
+
+/// The rows of calls on a table, once. Each time is the median of as many calls as there are rounds.
+pub fn rows<Ours: Side, Theirs: Side>(plans: &Plans, rounds: usize) -> Vec<Row> {
+    let capacity = plans.capacity;
     let empty = vec![0; 4 * capacity];
-    let mut pass = Pass { rounds, our_room: Room::new(capacity), their_room: Room::new(capacity), rows: vec![] };
-    macro_rules! row {
-        ($name:expr, $inputs:expr, $call:ident) => {
-            pass.row($name, $inputs, calls::$call::<Ours>, calls::$call::<Theirs>)
-        };
-    }
-    row!("soundness, by a refused put", &two_tabs(&plans.scattered), refused_put);
-    row!("report, grid", &plans.grid, report);
-    row!("report, random", &plans.random, report);
-    row!("report, scattered grid", &plans.scattered, report);
-    row!("piece report, of all tabs", &two_tabs(&plans.scattered), component_report);
-    row!("piece report, of 64 tabs", &two_tabs(&plans.pieces), component_report);
-    row!("round of all tabs", &plans.one_gap, face_round);
-    row!("play, a canonical tape", &plans.tapes.iter().map(|tape| (tape, &empty)).collect::<Vec<_>>(), play);
-    row!("needs of a tape", &plans.tapes, tape_needs);
-    row!("write a tape", &plans.scattered, write_tape);
+    let tapes_and_tables: Vec<_> = plans.tapes.iter().map(|tape| (tape, &empty)).collect();
+    let mut pass = Pass::new(capacity, rounds);
+    row!(pass, "soundness, by a refused put", &two_tabs(&plans.scattered), calls::refused_put);
+    row!(pass, "report, grid", &plans.grid, calls::report);
+    row!(pass, "report, random", &plans.random, calls::report);
+    row!(pass, "report, scattered grid", &plans.scattered, calls::report);
+    row!(pass, "piece report, of all tabs", &two_tabs(&plans.scattered), calls::component_report);
+    row!(pass, "piece report, of 64 tabs", &two_tabs(&plans.pieces), calls::component_report);
+    row!(pass, "round of all tabs", &plans.one_gap, calls::face_round);
+    row!(pass, "play, a canonical tape", &tapes_and_tables, calls::play);
+    row!(pass, "needs of a tape", &plans.tapes, calls::tape_needs);
+    row!(pass, "write a tape", &plans.scattered, calls::write_tape);
     for (name, ties) in [("ring of 255", 255), ("ring of 2,048", 2048)] {
         if 2 * ties <= capacity {
-            row!(name, &[dipole(ties, capacity)], ring_cut);
+            row!(pass, name, &[dipole(ties, capacity)], calls::ring_cut);
         }
     }
-    row!("one join", &two_tabs(&plans.untied), edge_join);
-    row!("screen", &plans.tapes, screen);
+    row!(pass, "one join", &two_tabs(&plans.untied), calls::edge_join);
+    row!(pass, "screen", &plans.tapes, calls::screen);
+    pass.rows
+}
+
+/// The rows of calls on a journal, once.
+pub fn journal_rows<Ours: JournalSide, Theirs: JournalSide>(plans: &Plans, rounds: usize) -> Vec<Row> {
+    let mut pass = Pass::new(plans.capacity, rounds);
+    row!(pass, "one journaled join", &journal::joins(plans), journal::edge_join);
+    row!(pass, "journaled run, a canonical tape", &journal::runs(plans), journal::play);
+    row!(pass, "going back over it", &journal::after_runs(plans), journal::go_back);
     pass.rows
 }

@@ -8,12 +8,14 @@ use crate::testing::needs;
 use crate::testing::second::{self, Part, Plan};
 use std::fmt::Debug;
 
+pub mod journal;
+
 /// What was met: how often each refusal, 0 for what was accepted; rings that were cut, and rounds; plans with handles,
 /// and plans of which some pieces are lifted and others, of one tab, are not; rings in a flat piece beside one with
 /// handles.
 #[derive(Default)]
 pub struct Met {
-    pub refusals: [u64; 17],
+    pub refusals: [u64; 20],
     pub calls: u64,
     pub rings: u64,
     pub longest_ring: usize,
@@ -23,6 +25,8 @@ pub struct Met {
     pub rings_beside_handles: u64,
     /// Runs that went as their tape's needs said.
     pub foretold: u64,
+    /// What calls on journals met.
+    pub journal: journal::Places,
 }
 
 impl Met {

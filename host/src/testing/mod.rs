@@ -2,6 +2,7 @@
 
 pub mod compare;
 pub mod guarded;
+pub mod journal;
 pub mod needs;
 pub mod plans;
 pub mod random;

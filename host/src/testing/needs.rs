@@ -67,9 +67,11 @@ pub struct Undergone {
 }
 
 /// A ring as one tie cut for each crossing.
-fn crossing_by_crossing(command: &Command) -> Vec<Command> {
+pub fn crossing_by_crossing(command: &Command) -> Vec<Command> {
     match command {
-        Command::Ring(tabs) => tabs.chunks(2).map(|pair| Command::Cut(Dimension::Tie, pair[0], pair[1])).collect(),
+        Command::Ring(tabs) => {
+            tabs.chunks_exact(2).map(|pair| Command::Cut(Dimension::Tie, pair[0], pair[1])).collect()
+        }
         other => vec![other.clone()],
     }
 }

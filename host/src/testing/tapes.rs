@@ -5,9 +5,14 @@ use crate::testing::plans;
 use crate::testing::random::Random;
 use crate::testing::second::Plan;
 
-/// Commands that were accepted on the way, with one now and then that was not.
+/// A tape for an empty table.
 pub fn random(random: &mut Random, capacity: usize) -> Vec<u8> {
-    let mut plan = Plan::empty(capacity);
+    on(random, Plan::empty(capacity))
+}
+
+/// Commands that were accepted on the way, with one now and then that was not.
+pub fn on(random: &mut Random, mut plan: Plan) -> Vec<u8> {
+    let capacity = plan.capacity;
     let mut bytes = vec![];
     for _ in 0..random.below(60) {
         let command = match random.below(6) {

@@ -2,8 +2,10 @@
 //!
 //!     differential [--seconds N] [--seed S]
 //!
-//! For as long as it is given (20 seconds), with a seed (1): random and structured plans and tapes, whole and damaged.
-//! It ends with how often each refusal was met, and fails where one was never met.
+//! For as long as it is given (20 seconds), with a seed (1): random and structured plans, tapes and journals, whole and
+//! damaged. It ends with how often each refusal was met, and fails where one was never met.
+
+mod journal;
 
 use lotskadi_host::binding::Totals;
 use lotskadi_host::commands::{Command, Dimension, Tab, MAX_CAPACITY, MAX_TAPE};
@@ -205,6 +207,26 @@ fn full(random: &mut Random, met: &mut Met) {
     tape_needs(met, &empty_rings, 0);
 }
 
+fn report_journals(met: &Met, greatest_length_tested: bool) {
+    let places = &met.journal;
+    let (returns, longest) = (places.returns, places.longest_return);
+    println!("{returns} returns to a checkpoint left the table as it was, the longest over {longest} entries");
+    println!("refusals of journals by place, and how often each was met:");
+    for (place, times) in places.each() {
+        println!("  {place}: {times}");
+    }
+    if !greatest_length_tested {
+        println!("lengths around 4,294,967,294 were left out: no address space for such a journal");
+    }
+}
+
+/// Whether everything was met that should be.
+fn all_met(met: &Met) -> bool {
+    let plans = [met.rings, met.with_handles, met.partly_lifted, met.rings_beside_handles, met.foretold];
+    let mut counts = met.refusals.iter().chain(&plans).copied().chain(met.journal.each().map(|(_, times)| times));
+    counts.all(|times| times > 0) && met.longest_round == MAX_CAPACITY && met.journal.returns > 0
+}
+
 fn main() {
     let arguments: Vec<String> = std::env::args().collect();
     let option = |name: &str, default: u64| match arguments.iter().position(|a| a == name) {
@@ -215,12 +237,18 @@ fn main() {
     let mut random = Random::new(seed);
     let mut met = Met::default();
     let end = Instant::now() + Duration::from_secs(seconds);
+    let greatest_length_tested = journal::greatest_length();
     let mut turns = 0u64;
     while Instant::now() < end {
         match turns % 200 {
             0 => full(&mut random, &mut met),
+            100 => journal::full(&mut random, &mut met),
+            150 => journal::long_tapes(&mut met),
             n if n % 20 == 5 => rings(&mut random, &mut met),
             n if n % 20 == 15 => ring_beside(&mut random, &mut met),
+            n if n % 40 == 7 => journal::short_journals(&mut random, &mut met),
+            n if n % 8 == 3 => journal::returns(&mut random, &mut met),
+            n if n % 8 == 7 => journal::spoilt(&mut random, &mut met),
             n if n % 4 == 1 => damaged_table(&mut random, &mut met),
             n if n % 4 == 2 => tapes(&mut random, &mut met),
             _ => commands(&mut random, &mut met),
@@ -234,12 +262,10 @@ fn main() {
     );
     println!("{} reports of plans with handles, {} of plans lifted in part", met.with_handles, met.partly_lifted);
     println!("{} rings in a flat piece beside one with handles", met.rings_beside_handles);
+    report_journals(&met, greatest_length_tested);
     println!("refusals (0: accepted) and how often each was met:");
     for (number, times) in met.refusals.iter().enumerate() {
         println!("  {number:2}: {times}");
     }
-    let all_met = met.refusals.iter().all(|&times| times > 0);
-    let plans_met = [met.rings, met.with_handles, met.partly_lifted, met.rings_beside_handles, met.foretold];
-    let longest_met = met.longest_round == MAX_CAPACITY;
-    assert!(all_met && plans_met.iter().all(|&times| times > 0) && longest_met, "something was never met");
+    assert!(all_met(&met), "something was never met");
 }
