@@ -25,13 +25,15 @@ fn kernel_and_plain_rust_agree_on_journals() {
 
 #[test]
 fn small_tables_have_no_long_ring() {
-    let names: Vec<&str> = measured(512).iter().map(|row| row.name).collect();
-    assert!(names.contains(&"ring of 255") && !names.contains(&"ring of 2,048"));
+    let names: Vec<String> = measured(512).into_iter().map(|row| row.name).collect();
+    let has = |name: &str| names.iter().any(|n| n == name);
+    assert!(has("ring of 255") && !has("ring of 2,048"));
 }
 
 #[test]
 fn the_best_times_are_kept() {
-    let mut row = Row { name: "a row", ours: 3.0, theirs: 4.0 };
-    row.keep_best(&Row { name: "a row", ours: 5.0, theirs: 2.0 });
-    assert_eq!((row.ours, row.theirs), (3.0, 2.0));
+    let row = |ours, theirs| Row { name: "a row".to_string(), ours, theirs };
+    let mut best = row(3.0, 4.0);
+    best.keep_best(&row(5.0, 2.0));
+    assert_eq!((best.ours, best.theirs), (3.0, 2.0));
 }

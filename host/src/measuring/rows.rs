@@ -8,7 +8,7 @@ use crate::measuring::timing::{medians, Timed};
 
 /// Microseconds of one call by both sides.
 pub struct Row {
-    pub name: &'static str,
+    pub name: String,
     pub ours: f64,
     pub theirs: f64,
 }
@@ -51,7 +51,7 @@ impl Pass {
         let our_time = |input: &I| ours(input, our_room).micros;
         let their_time = |input: &I| theirs(input, their_room).micros;
         let (ours, theirs) = medians(self.rounds, inputs, our_time, their_time);
-        self.rows.push(Row { name, ours, theirs });
+        self.rows.push(Row { name: name.to_string(), ours, theirs });
     }
 }
 
