@@ -23,10 +23,8 @@ use tape::operands;
 pub fn or_full(refusal: u8, used: u32, room: u32) -> u8
     ensures { λ r. ⌜ r ≡ orElse refusal (unless (ltb used room) journalFull) ⌝ }
 {
-    refusals::or_else(
-        refusal,
-        refusals::unless_so(used < room, refusals::JOURNAL_FULL),
-    )
+    let full = refusals::unless_so(used < room, refusals::JOURNAL_FULL);
+    refusals::or_else(refusal, full)
 }
 
 // One change, for a call by itself. A run has `add`, which goes by arms.
