@@ -12,7 +12,7 @@ nothing_required() {
 
 # A limit is written as a number in the two files that name it, and nowhere else. 256 * 256 divides a number into bytes.
 limits_named_once() {
-    ! git grep -nwE '4096|16384|65536|53238|53278' -- 'crates/*.rt' 'crates/*.antt' \
+    ! git grep -nwE '4096|16384|65536|53238|53278|4294967294' -- 'crates/*.rt' 'crates/*.antt' \
         ':!crates/table/src/limits.rt' ':!crates/table/specs/Limits.antt' | grep -v '/ 65536 % 256'
 }
 

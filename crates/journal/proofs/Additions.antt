@@ -180,7 +180,8 @@ ringShort w ws e =
 module _
     (w : Table) (j : Journal) (used : ℕ) (ws : List ℕ) (e : ringRefusal w ws ≡ 0) (room : ℕ) (known : IsRoom j room)
   where
-    ringRefusalIs : journaledRefusal (recorded w j used) (cutsRing ws) ≡ unless (hasRoom j (used + length ws / 2)) journalFull
+    ringRefusalIs :
+        journaledRefusal (recorded w j used) (cutsRing ws) ≡ unless (hasRoom j (used + length ws / 2)) journalFull
     unfolding journaledRefusal roomRefusal orElse
     ringRefusalIs =
         rw (eq-eqb (ringRefusal w ws) 0 e) (ap (λ n. unless (hasRoom j (used + n)) journalFull) (cutsLength ws))

@@ -7,11 +7,13 @@ pub mod heads;
 pub mod run;
 pub mod undo;
 
+use table::limits::CHECKPOINTS;
+
 // How many entries are used, and for each checkpoint how many were used when it was set, or 4,294,967,295 where it is
 // not set. Document 02 calls a checkpoint a mark.
 #[repr(C)]
 pub struct Head {
-    pub checkpoints: [u32; 16],
+    pub checkpoints: [u32; CHECKPOINTS],
     pub length: u32,
 }
 

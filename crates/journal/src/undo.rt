@@ -31,8 +31,8 @@ fn unfit(refusal: u8, lacked: u32) -> u8
     refusals::unless_so((lacked == 0) & (refusal == 0), refusals::UNDO_UNFIT)
 }
 
-// Undoes the entry of a byte and two operands, or answers 17. It goes by arms, in which the dimension is known; the loop
-// below has it compiled into it as long as it is the only caller.
+// Undoes the entry of a byte and two operands, or answers 17. It goes by arms, in which the dimension is known; the
+// loop below has it compiled into it as long as it is the only caller.
 fn undo_entry(table: &mut [u16], byte: u16, a: u32, b: u32) -> u8
     requires { ⌜ WithinCapacity (now table) ⌝ }
     ensures { λ r. ⌜ r ≡ undoRefusal (now (table .entry)) (entry byte a b) ⌝ }

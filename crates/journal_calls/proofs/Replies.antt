@@ -138,7 +138,9 @@ module _ (s : State) (bs : List ℕ) where
         rw (eq-eqb (journalPlayRefusal s bs) 0 (judged ∙ sym e ∙ z)) (rw (q, a .0) refl, (a .1 .0, a .1 .1))
 
 -- A CHECKPOINT
-module _ (j : Journal) (h : Head) (c n : ℕ) (e : n ≡ orElse (headRefusal j h) (unless (ltb c checkpointCount) noMark)) where
+module _
+    (j : Journal) (h : Head) (c n : ℕ)
+    (e : n ≡ orElse (headRefusal j h) (unless (ltb c checkpointCount) noMark)) where
   pub notSet :
       (n ≡ 0 → ⊥) → (w : Table) → record { number = n; head = h } ≡ journaledOf (checkpointReply (stateOf w j h) c)
   unfolding checkpointRefusal setRefusal leaves
@@ -192,7 +194,9 @@ module _ (s : State) (c n : ℕ) (e : n ≡ stateRefusal s) where
         (v ≡ undoing (s .table) (s .journal) r (s .head .length - r) .state)) where
       -- no more are undone than there are
       pub undoneFew : u .undone ≤ s .head .length
-      undoneFew = let l = undoneAtMost (s .table) (s .journal) r (s .head .length - r) in omega (arith, ap (λ x. x .undone) (a .0), l)
+      undoneFew =
+          let l = undoneAtMost (s .table) (s .journal) r (s .head .length - r) in
+          omega (arith, ap (λ x. x .undone) (a .0), l)
 
       pub wentBackTo :
           (g : Head) → g ≡ cutBack (s .head .length - u .undone) (s .head) →

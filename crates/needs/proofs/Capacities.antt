@@ -63,7 +63,8 @@ namedBelow w reports e = omega arith
 namedBelow w (cutsRing ws) e = presentBelow w ws (acceptedList w ws e .darts)
 
 accepted :
-    (cs : List TapeCommand) (w : Table) → holdsHypermap w ≡ true → AllAccepted stepRule w cs → greatest (namedIn cs) ≤ capacity w
+    (cs : List TapeCommand) (w : Table) → holdsHypermap w ≡ true → AllAccepted stepRule w cs →
+    greatest (namedIn cs) ≤ capacity w
 unfolding namedIn greatest
 accepted [] w s a = omega arith
 accepted (c ∷ cs) w s a =

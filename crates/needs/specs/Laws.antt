@@ -28,7 +28,8 @@ CapacityLaw = (w : Table) (cs : List TapeCommand) → NoneOff w cs ↔ (greatest
 -- so commands that are all accepted need no more than there is
 abbrev pub AcceptedCapacityLaw : Type 0
 AcceptedCapacityLaw =
-    (w : Table) (cs : List TapeCommand) → holdsHypermap w ≡ true → AllAccepted stepRule w cs → greatest (namedIn cs) ≤ capacity w
+    (w : Table) (cs : List TapeCommand) → holdsHypermap w ≡ true → AllAccepted stepRule w cs →
+    greatest (namedIn cs) ≤ capacity w
 
 -- THE PEAK: "the highest of puts less take-outs over all beginnings of the tape, at least 0"
 pub record IsPeak (cs : List TapeCommand) (p : ℕ) : Type 0 where

@@ -22,7 +22,7 @@ use Rattle.table.proofs.Runs.{runLaw}
 use Rattle.table.proofs.Holding.{low, high}
 use Rattle.parts.specs.declared.Part.the-variants.{Edge}
 use Rattle.rings.specs.Rings.{linksOf, cutAlong}
-use Rattle.tape.specs.Steps.{TapeCommand, stepRule}
+use Rattle.tape.specs.Steps.{stepRule}
 use Rattle.tape.specs.Tapes.{contentsOf}
 use Rattle.kernel.specs.Calls.{callRefusal, callLeaves, ringCallRefusal, ringCallLeaves, reportOn}
 use Rattle.kernel.specs.Calls.{questionRefusal, answer, sameAnswer, listRefusal, listLeaves}
@@ -88,7 +88,7 @@ played :
 unfolding playOutcome
 played w tape = (
   λ z. rw (ne-eqb (playRefusal w tape) 0 z),
-  λ e. rw (playRan w tape e) (runLaw Table TapeCommand stepRule w (contentsOf tape .commands) (contentsOf tape .refusal)),
+  λ e. rw (playRan w tape e) (runLaw _ _ stepRule w (contentsOf tape .commands) (contentsOf tape .refusal)),
 )
 
 -- DEMAND 1, whole

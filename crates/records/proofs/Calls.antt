@@ -1,4 +1,5 @@
--- What the form as records needs of `ring_cut`: a list that is too long is answered as no list is. Assumes nothing.
+-- What the form as records needs of `ring_cut`, plain and journaled: a list that is too long is answered as no list is.
+-- Assumes nothing.
 use mathlib.Core.Path.{_≡_, refl, sym, ap, _∙_}
 use mathlib.Core.Bool.{Bool, true, false, _&&_}
 use mathlib.Core.List.{List, []}
@@ -10,9 +11,14 @@ use Rattle.table.specs.Limits.{maxRing}
 use Rattle.table.specs.Refusals.{noList, orElse, unless}
 use Rattle.table.specs.Layout.{Table}
 use Rattle.table.specs.Commands.{leaves}
+use Rattle.table.specs.Runs.{stopped}
 use Rattle.rings.specs.Rings.{isList, ringRefusal, cutAlong, linksOf}
+use Rattle.tape.specs.Steps.{cutsRing}
 use Rattle.soundness.specs.Soundness.{tableRefusal}
+use Rattle.journal.specs.Journaling.{journaledRefusal, journaledOn}
 use Rattle.kernel.specs.Calls.{ringCallRefusal, ringCallLeaves}
+use Rattle.journal_calls.specs.Calls.{State, stateRefusal, performRefusal, performReply, replyBy}
+use Rattle.journal_calls.specs.Calls.{recordedIn, withRecorded}
 
 never : (a b c : Bool) → c ≡ false → (a && b && c) ≡ false
 never true true c e = e
@@ -31,7 +37,7 @@ refused : (w : Table) (ws : List ℕ) → isList ws ≡ false → ringCallRefusa
 unfolding ringCallRefusal ringRefusal orElse unless
 refused w ws e = simp e
 
-unchanged : (n : ℕ) (v w : Table) → leaves (orElse n noList) v w ≡ w
+unchanged : {S : Type 0} (n : ℕ) (v w : S) → leaves (orElse n noList) v w ≡ w
 unfolding leaves orElse
 unchanged n v w = byTest (eqb n 0) refl
   where
@@ -51,3 +57,22 @@ longAsNone w ws l = (
   refused w ws (longIsNone ws l) ∙ sym (refused w [] noneIsNone),
   refusedLeaves w ws (longIsNone ws l) ∙ sym (refusedLeaves w [] noneIsNone),
 )
+
+-- THE SAME WITH A JOURNAL
+performRefused :
+    (s : State) (ws : List ℕ) → isList ws ≡ false →
+    performRefusal s (cutsRing ws) ≡ orElse (stateRefusal s) noList
+unfolding performRefusal journaledRefusal ringRefusal orElse unless
+performRefused s ws e = simp e
+
+refusedReply :
+    (s : State) (ws : List ℕ) → isList ws ≡ false →
+    performReply s (cutsRing ws) ≡ stopped (orElse (stateRefusal s) noList) s
+refusedReply s ws e =
+    ap (λ (n : ℕ). replyBy n (withRecorded s (journaledOn (recordedIn s) (cutsRing ws))) s) (performRefused s ws e) ∙
+    ap (λ (t : State). record { number = orElse (stateRefusal s) noList; accepted = 0; state = t })
+    (unchanged (stateRefusal s) _ s)
+
+pub journaledLongAsNone :
+    (s : State) (ws : List ℕ) → maxRing < length ws → performReply s (cutsRing ws) ≡ performReply s (cutsRing [])
+journaledLongAsNone s ws l = refusedReply s ws (longIsNone ws l) ∙ sym (refusedReply s [] noneIsNone)

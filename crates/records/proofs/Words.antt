@@ -8,12 +8,14 @@ use native.Mathlib.Omega.{arith}
 use lib.Dec.{T, ltb, ltb→lt, nltb→le}
 use lib.ListN.{length, getD, take, set, length-set}
 use lib.Seq.{take-suc, take-suc-set, take-length}
-use Rattle.table.specs.Limits.{maxDoubleLinks}
+use Rattle.table.specs.Limits.{maxDoubleLinks, maxRing}
 use Rattle.table.specs.Layout.{Table}
+use Rattle.tape.specs.Steps.{cutsRing}
 use Rattle.records.specs.declared.DoubleLink.{DoubleLink}
 use Rattle.kernel.specs.Calls.{ringCallRefusal, ringCallLeaves}
+use Rattle.journal_calls.specs.Calls.{State, performReply}
 use Rattle.records.specs.Records.{wordsOf, fitted}
-use Rattle.records.proofs.Calls.{longAsNone}
+use Rattle.records.proofs.Calls.{longAsNone, journaledLongAsNone}
 
 pub fittedKept : (n : ℕ) → (fitted n ≤ maxDoubleLinks) × (fitted n ≤ n)
 unfolding fitted
@@ -77,28 +79,33 @@ lengthWords (l ∷ ls) = ap (λ (k : ℕ). suc (suc k)) (lengthWords ls) ∙ nex
     next : (k : ℕ) → suc (suc (2 * k)) ≡ 2 * suc k
     next k = omega arith
 
+-- what is the same of a list that is too long as of none is the same of the words that fit as of all
+fittedSame :
+    {X : Type 0} (f : List ℕ → X) → ((ws : List ℕ) → maxRing < length ws → f ws ≡ f []) → (ls : List DoubleLink) →
+    f (wordsOf (take (fitted (length ls)) ls)) ≡ f (wordsOf ls)
+unfolding fitted wordsOf
+fittedSame {X} f longAs ls = same (ltb maxDoubleLinks (length ls)) refl
+  where
+    same :
+        (t : Bool) → ltb maxDoubleLinks (length ls) ≡ t →
+        f (wordsOf (take (cond t 0 (length ls)) ls)) ≡ f (wordsOf ls)
+    same true e = sym (longAs (wordsOf ls) (omega (arith, many, lengthWords ls)))
+      where
+        many : maxDoubleLinks < length ls
+        many = ltb→lt maxDoubleLinks (length ls) (subst T (sym e) tt)
+    same false e = ap (λ (ks : List DoubleLink). f (wordsOf ks)) (take-length ls)
+
 -- to cut along the words that fit is to cut along all
 pub fittedCalls :
     (w : Table) (ls : List DoubleLink) →
     (ringCallRefusal w (wordsOf (take (fitted (length ls)) ls)) ≡ ringCallRefusal w (wordsOf ls)) ×
     (ringCallLeaves w (wordsOf (take (fitted (length ls)) ls)) ≡ ringCallLeaves w (wordsOf ls))
-unfolding fitted wordsOf
-fittedCalls w ls = calls (ltb maxDoubleLinks (length ls)) refl
-  where
-    calls :
-        (t : Bool) → ltb maxDoubleLinks (length ls) ≡ t →
-        (ringCallRefusal w (wordsOf (take (cond t 0 (length ls)) ls)) ≡ ringCallRefusal w (wordsOf ls)) ×
-        (ringCallLeaves w (wordsOf (take (cond t 0 (length ls)) ls)) ≡ ringCallLeaves w (wordsOf ls))
-    calls true e = (sym (long .0), sym (long .1))
-      where
-        many : maxDoubleLinks < length ls
-        many = ltb→lt maxDoubleLinks (length ls) (subst T (sym e) tt)
+fittedCalls w ls = (
+  fittedSame (ringCallRefusal w) (λ ws l. longAsNone w ws l .0) ls,
+  fittedSame (ringCallLeaves w) (λ ws l. longAsNone w ws l .1) ls,
+)
 
-        long :
-            (ringCallRefusal w (wordsOf ls) ≡ ringCallRefusal w []) ×
-            (ringCallLeaves w (wordsOf ls) ≡ ringCallLeaves w [])
-        long = longAsNone w (wordsOf ls) (omega (arith, many, lengthWords ls))
-    calls false e = (
-      ap (λ (ks : List DoubleLink). ringCallRefusal w (wordsOf ks)) (take-length ls),
-      ap (λ (ks : List DoubleLink). ringCallLeaves w (wordsOf ks)) (take-length ls),
-    )
+pub fittedReply :
+    (s : State) (ls : List DoubleLink) →
+    performReply s (cutsRing (wordsOf (take (fitted (length ls)) ls))) ≡ performReply s (cutsRing (wordsOf ls))
+fittedReply s ls = fittedSame (λ ws. performReply s (cutsRing ws)) (journaledLongAsNone s) ls

@@ -4,8 +4,12 @@ ghost use mathlib.Core.Path.{_≡_};
 ghost use Prim.Native.Nat.{_*_};
 ghost use lib.ListN.{take};
 ghost use Rattle.kernel.specs.Calls.{ringCallRefusal, ringCallLeaves};
+ghost use Rattle.tape.specs.Steps.{cutsRing};
+ghost use Rattle.journal_calls.specs.Calls.{stateOf, performReply, journaledOf};
 ghost use Rattle.records.specs.Records.{fitted, BeginsWith};
 use crate::DoubleLink;
+use journal_calls::Head;
+use journal_calls::Journaled;
 use kernel::ring_cut;
 use table::limits::MAX_DOUBLE_LINKS;
 use table::limits::MAX_RING;
@@ -32,6 +36,27 @@ pub fn flatten(ring: &[DoubleLink]) -> [u16; MAX_RING]
         i += 1;
     }
     words
+}
+
+// The journaled cut along the words of n double-links.
+pub fn journal_cut_front(
+    table: &mut [u16],
+    journal: &mut [u16],
+    head: Head,
+    words: [u16; MAX_RING],
+    n: usize,
+) -> Journaled
+    ensures { λ r. ⌜ r ≡ journaledOf (performReply
+        (stateOf (now (table .entry)) (now (journal .entry)) head) (cutsRing (take (2 * fitted n) words))) ⌝ }
+    ensures table { λ r. ⌜ now (table .exit) ≡ performReply
+        (stateOf (now (table .entry)) (now (journal .entry)) head) (cutsRing (take (2 * fitted n) words))
+        .state .table ⌝ }
+    ensures journal { λ r. ⌜ now (journal .exit) ≡ performReply
+        (stateOf (now (table .entry)) (now (journal .entry)) head) (cutsRing (take (2 * fitted n) words))
+        .state .journal ⌝ }
+{
+    let e = 2 * fit(n);
+    journal_calls::ring_cut(table, journal, head, &words[..e])
 }
 
 // The cut along the words of n double-links.

@@ -1,5 +1,5 @@
--- The limits of tables, rings, tapes and journals, and the places of a dart's words. Each is named here and nowhere else;
--- src/limits.rt has the same names for the code. Assumes nothing: these are definitions.
+-- The limits of tables, rings, tapes and journals, and the places of a dart's words. Each is named here and nowhere
+-- else; src/limits.rt has the same names for the code. Assumes nothing: these are definitions.
 use Prim.Native.Nat.{ℕ, _*_, _/_}
 
 -- TABLES. The words of each dart

@@ -1,5 +1,5 @@
-// The limits of tables, rings, tapes and journals, and the places of a dart's words. Each is named here and nowhere else;
-// specs/Limits has the same names for the definitions.
+// The limits of tables, rings, tapes and journals, and the places of a dart's words. Each is named here and nowhere
+// else; specs/Limits has the same names for the definitions.
 
 // Words of each dart.
 pub const WORDS_PER_DART: usize = 4;

@@ -133,7 +133,8 @@ module _ (w v : Table) (k : Dimension) (s : holdsHypermap w ≡ true) where
     stillAlone y z m t = ap (turned w k x) (alone y z (memTail y x xs m) t) ∙ turnedElse w k x z (apart y z m t)
 
     module _
-        (i : Rebuilt w v (afterAll stepRule u (map changes (orbitJoins (hypermapOf w) k x))) k xs (λ z. turned w k x (g z))) where
+        (i : Rebuilt w v (afterAll stepRule u (map changes (orbitJoins (hypermapOf w) k x))) k xs
+        (λ z. turned w k x (g z))) where
       firstReached : (z : ℕ) → Together w k x z → i .after z ≡ wordAt w z (nextWord k)
       firstReached z t =
           let e = ap (turned w k x) (alone x z (memHead x xs) t) ∙ turnedNext w k s x z first t in

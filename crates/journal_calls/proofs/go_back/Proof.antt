@@ -27,8 +27,8 @@ sub-cut-back c =
     let l = u .before .before in
     let k = l .before in
     let e = k .before in
-    undoneFew _ _ _ (e .before .state-refusal .ensures) (e .if1 .left) _ (k .checkpoint-of .ensures .some (l .if2 .left))
-    _ _ (u .undo-back .ensures)
+    undoneFew _ _ _ (e .before .state-refusal .ensures) (e .if1 .left) _
+    (k .checkpoint-of .ensures .some (l .if2 .left)) _ _ (u .undo-back .ensures)
 
 returns-3 : tie.Need-returns-3
 returns-3 c =

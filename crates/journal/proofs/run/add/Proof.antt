@@ -11,85 +11,97 @@ write-all-unless-requires : tie.Need-write-all-unless-requires
 write-all-unless-requires c κs z =
     let o = c .before in
     let start = o .before .before .before .before .before .before .before .before in
-    putStorable (changeAccepts _ _ _ _ (start .pre) _ _ (o .before .put-refusal .ensures) _ (o .or-full .ensures) z)
+    putStorable
+    (changeAccepts _ _ _ _ (start .pre) _ _ (o .before .put-refusal .ensures) _ (o .or-full .ensures) z)
 
 write-unless-requires : tie.Need-write-unless-requires
 write-unless-requires c κs z =
     let made = c .before .before .before in
     let o = made .before .before in
     let arm = o .before .before .before .before in
-    changeWritable _ _ _ _ (arm .before .before .before .before .pre) (puts (arm .change .given .0 .0)) _ (o .before .put-refusal .ensures) _ (o .or-full .ensures)
-    (sym (made .write-all-unless .ensures .0) ∙ z)
+    let xs = arm .change .given .0 in
+    changeWritable _ _ _ _ (arm .before .before .before .before .pre) (puts (xs .0)) _
+    (o .before .put-refusal .ensures) _ (o .or-full .ensures) (sym (made .write-all-unless .ensures .0) ∙ z)
 
 write-all-unless-requires-2 : tie.Need-write-all-unless-requires-2
 write-all-unless-requires-2 c κs z =
     let o = c .before in
     let start = o .before .before .before .before .before .before .before .before in
-    takeOutStorable (changeAccepts _ _ _ _ (start .pre) _ _ (o .before .take-out-refusal .ensures) _ (o .or-full2 .ensures) z)
+    takeOutStorable
+    (changeAccepts _ _ _ _ (start .pre) _ _ (o .before .take-out-refusal .ensures) _ (o .or-full2 .ensures) z)
 
 write-unless-requires-2 : tie.Need-write-unless-requires-2
 write-unless-requires-2 c κs z =
     let made = c .before .before .before in
     let o = made .before .before in
     let arm = o .before .before .before .before in
-    changeWritable _ _ _ _ (arm .before .before .before .before .pre) (takesOut (arm .change2 .given .0 .0)) _ (o .before .take-out-refusal .ensures) _ (o .or-full2 .ensures)
-    (sym (made .write-all-unless2 .ensures .0) ∙ z)
+    let xs = arm .change2 .given .0 in
+    changeWritable _ _ _ _ (arm .before .before .before .before .pre) (takesOut (xs .0)) _
+    (o .before .take-out-refusal .ensures) _ (o .or-full2 .ensures) (sym (made .write-all-unless2 .ensures .0) ∙ z)
 
 write-swap-unless-requires : tie.Need-write-swap-unless-requires
 write-swap-unless-requires c κs z =
     let o = c .before in
     let start = o .before .before .before .before .before .before .before .before in
-    joinAt (changeAccepts _ _ _ _ (start .pre) _ _ (o .before .join-refusal .ensures) _ (o .or-full3 .ensures) z)
+    joinAt
+    (changeAccepts _ _ _ _ (start .pre) _ _ (o .before .join-refusal .ensures) _ (o .or-full3 .ensures) z)
 
 write-unless-requires-3 : tie.Need-write-unless-requires-3
 write-unless-requires-3 c κs z =
     let made = c .before .before .before in
     let o = made .before .before in
     let arm = o .before .before .before .before in
-    changeWritable _ _ _ _ (arm .before .before .before .before .pre) (joins edge (arm .change3 .given .0 .0) (arm .change3 .given .0 .1 .0)) _ (o .before .join-refusal .ensures) _ (o .or-full3 .ensures)
-    (sym (made .write-swap-unless .ensures .0) ∙ z)
+    let xs = arm .change3 .given .0 in
+    changeWritable _ _ _ _ (arm .before .before .before .before .pre) (joins edge (xs .0) (xs .1 .0)) _
+    (o .before .join-refusal .ensures) _ (o .or-full3 .ensures) (sym (made .write-swap-unless .ensures .0) ∙ z)
 
 write-swap-unless-requires-2 : tie.Need-write-swap-unless-requires-2
 write-swap-unless-requires-2 c κs z =
     let o = c .before in
     let start = o .before .before .before .before .before .before .before .before in
-    cutAt (changeAccepts _ _ _ _ (start .pre) _ _ (o .before .cut-refusal .ensures) _ (o .or-full4 .ensures) z)
+    cutAt
+    (changeAccepts _ _ _ _ (start .pre) _ _ (o .before .cut-refusal .ensures) _ (o .or-full4 .ensures) z)
 
 write-unless-requires-4 : tie.Need-write-unless-requires-4
 write-unless-requires-4 c κs z =
     let made = c .before .before .before in
     let o = made .before .before in
     let arm = o .before .before .before .before in
-    changeWritable _ _ _ _ (arm .before .before .before .before .pre) (cuts edge (arm .change4 .given .0 .0) (arm .change4 .given .0 .1 .0)) _ (o .before .cut-refusal .ensures) _ (o .or-full4 .ensures)
-    (sym (made .write-swap-unless2 .ensures .0) ∙ z)
+    let xs = arm .change4 .given .0 in
+    changeWritable _ _ _ _ (arm .before .before .before .before .pre) (cuts edge (xs .0) (xs .1 .0)) _
+    (o .before .cut-refusal .ensures) _ (o .or-full4 .ensures) (sym (made .write-swap-unless2 .ensures .0) ∙ z)
 
 write-swap-unless-requires-3 : tie.Need-write-swap-unless-requires-3
 write-swap-unless-requires-3 c κs z =
     let o = c .before in
     let start = o .before .before .before .before .before .before .before .before in
-    joinAt (changeAccepts _ _ _ _ (start .pre) _ _ (o .before .join-refusal2 .ensures) _ (o .or-full5 .ensures) z)
+    joinAt
+    (changeAccepts _ _ _ _ (start .pre) _ _ (o .before .join-refusal2 .ensures) _ (o .or-full5 .ensures) z)
 
 write-unless-requires-5 : tie.Need-write-unless-requires-5
 write-unless-requires-5 c κs z =
     let made = c .before .before .before in
     let o = made .before .before in
     let arm = o .before .before .before .before in
-    changeWritable _ _ _ _ (arm .before .before .before .before .pre) (joins vertex (arm .change5 .given .0 .0) (arm .change5 .given .0 .1 .0)) _ (o .before .join-refusal2 .ensures) _ (o .or-full5 .ensures)
-    (sym (made .write-swap-unless3 .ensures .0) ∙ z)
+    let xs = arm .change5 .given .0 in
+    changeWritable _ _ _ _ (arm .before .before .before .before .pre) (joins vertex (xs .0) (xs .1 .0)) _
+    (o .before .join-refusal2 .ensures) _ (o .or-full5 .ensures) (sym (made .write-swap-unless3 .ensures .0) ∙ z)
 
 write-swap-unless-requires-4 : tie.Need-write-swap-unless-requires-4
 write-swap-unless-requires-4 c κs z =
     let o = c .before in
     let start = o .before .before .before .before .before .before .before .before in
-    cutAt (changeAccepts _ _ _ _ (start .pre) _ _ (o .before .cut-refusal2 .ensures) _ (o .or-full6 .ensures) z)
+    cutAt
+    (changeAccepts _ _ _ _ (start .pre) _ _ (o .before .cut-refusal2 .ensures) _ (o .or-full6 .ensures) z)
 
 write-unless-requires-6 : tie.Need-write-unless-requires-6
 write-unless-requires-6 c κs z =
     let made = c .before .before .before in
     let o = made .before .before in
     let arm = o .before .before .before .before in
-    changeWritable _ _ _ _ (arm .before .before .before .before .pre) (cuts vertex (arm .change6 .given .0 .0) (arm .change6 .given .0 .1 .0)) _ (o .before .cut-refusal2 .ensures) _ (o .or-full6 .ensures)
-    (sym (made .write-swap-unless4 .ensures .0) ∙ z)
+    let xs = arm .change6 .given .0 in
+    changeWritable _ _ _ _ (arm .before .before .before .before .pre) (cuts vertex (xs .0) (xs .1 .0)) _
+    (o .before .cut-refusal2 .ensures) _ (o .or-full6 .ensures) (sym (made .write-swap-unless4 .ensures .0) ∙ z)
 
 returns : tie.Need-returns
 returns c =
@@ -155,12 +167,18 @@ pub add-spec : {M : Type 1} → statement M
 add-spec =
     tie.close
     (tie.spec
-    (λ c. search needs) (λ c κs. search needs) (λ c κs. search needs) write-all-unless-requires write-unless-requires
-    (λ c. search needs) (λ c κs. search needs) (λ c κs. search needs) write-all-unless-requires-2 write-unless-requires-2
-    (λ c. search needs) (λ c κs. search needs) (λ c κs. search needs) write-swap-unless-requires write-unless-requires-3
-    (λ c. search needs) (λ c κs. search needs) (λ c κs. search needs) write-swap-unless-requires-2 write-unless-requires-4
-    (λ c. search needs) (λ c κs. search needs) (λ c κs. search needs) write-swap-unless-requires-3 write-unless-requires-5
-    (λ c. search needs) (λ c κs. search needs) (λ c κs. search needs) write-swap-unless-requires-4 write-unless-requires-6
+    (λ c. search needs) (λ c κs. search needs) (λ c κs. search needs)
+    write-all-unless-requires write-unless-requires
+    (λ c. search needs) (λ c κs. search needs) (λ c κs. search needs)
+    write-all-unless-requires-2 write-unless-requires-2
+    (λ c. search needs) (λ c κs. search needs) (λ c κs. search needs)
+    write-swap-unless-requires write-unless-requires-3
+    (λ c. search needs) (λ c κs. search needs) (λ c κs. search needs)
+    write-swap-unless-requires-2 write-unless-requires-4
+    (λ c. search needs) (λ c κs. search needs) (λ c κs. search needs)
+    write-swap-unless-requires-3 write-unless-requires-5
+    (λ c. search needs) (λ c κs. search needs) (λ c κs. search needs)
+    write-swap-unless-requires-4 write-unless-requires-6
     (λ c. search needs) (λ c. search needs) returns
     (λ c. search needs) (λ c. search needs) returns-2
     (λ c. search needs) (λ c. search needs) returns-3

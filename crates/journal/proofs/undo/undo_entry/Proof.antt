@@ -14,37 +14,43 @@ write-all-unless-requires : tie.Need-write-all-unless-requires
 write-all-unless-requires c κs z =
     let u = c .before in
     let start = u .before .before .before .before .before .before in
-    takeOutStorable (undoAccepts _ _ (start .args .b) _ (u .before .take-out-refusal .ensures) _ (u .unfit .ensures) (start .pre) z)
+    takeOutStorable
+    (undoAccepts _ _ (start .args .b) _ (u .before .take-out-refusal .ensures) _ (u .unfit .ensures) (start .pre) z)
 
 write-all-unless-requires-2 : tie.Need-write-all-unless-requires-2
 write-all-unless-requires-2 c κs z =
     let u = c .before in
     let start = u .before .before .before .before .before .before in
-    putStorable (undoAccepts _ _ (start .args .b) _ (u .before .put-refusal .ensures) _ (u .unfit2 .ensures) (start .pre) z)
+    putStorable
+    (undoAccepts _ _ (start .args .b) _ (u .before .put-refusal .ensures) _ (u .unfit2 .ensures) (start .pre) z)
 
 write-swap-unless-requires : tie.Need-write-swap-unless-requires
 write-swap-unless-requires c κs z =
     let u = c .before in
     let start = u .before .before .before .before .before .before in
-    cutAt (undoAccepts _ _ 0 _ (u .before .cut-refusal .ensures) _ (u .unfit3 .ensures) (start .pre) z)
+    cutAt
+    (undoAccepts _ _ 0 _ (u .before .cut-refusal .ensures) _ (u .unfit3 .ensures) (start .pre) z)
 
 write-swap-unless-requires-2 : tie.Need-write-swap-unless-requires-2
 write-swap-unless-requires-2 c κs z =
     let u = c .before in
     let start = u .before .before .before .before .before .before in
-    joinAt (undoAccepts _ _ 0 _ (u .before .join-refusal .ensures) _ (u .unfit4 .ensures) (start .pre) z)
+    joinAt
+    (undoAccepts _ _ 0 _ (u .before .join-refusal .ensures) _ (u .unfit4 .ensures) (start .pre) z)
 
 write-swap-unless-requires-3 : tie.Need-write-swap-unless-requires-3
 write-swap-unless-requires-3 c κs z =
     let u = c .before in
     let start = u .before .before .before .before .before .before in
-    cutAt (undoAccepts _ _ 0 _ (u .before .cut-refusal2 .ensures) _ (u .unfit5 .ensures) (start .pre) z)
+    cutAt
+    (undoAccepts _ _ 0 _ (u .before .cut-refusal2 .ensures) _ (u .unfit5 .ensures) (start .pre) z)
 
 write-swap-unless-requires-4 : tie.Need-write-swap-unless-requires-4
 write-swap-unless-requires-4 c κs z =
     let u = c .before in
     let start = u .before .before .before .before .before .before in
-    joinAt (undoAccepts _ _ 0 _ (u .before .join-refusal2 .ensures) _ (u .unfit6 .ensures) (start .pre) z)
+    joinAt
+    (undoAccepts _ _ 0 _ (u .before .join-refusal2 .ensures) _ (u .unfit6 .ensures) (start .pre) z)
 
 returns : tie.Need-returns
 unfolding isChange commandIn

@@ -44,8 +44,8 @@ returns c =
     let e = c .before in
     let d = e .before .before in
     let l = d .before .before .before in
-    told (playingRefused stepRule _ _ _ _ _ _ (l .loop .inv) (d .before .before .loop-test .taken) _ (d .read .ensures) _ _
-    (e .enum-told .given .1) (c .refusal-in .ensures))
+    told (playingRefused stepRule _ _ _ _ _ _ (l .loop .inv) (d .before .before .loop-test .taken) _
+    (d .read .ensures) _ _ (e .enum-told .given .1) (c .refusal-in .ensures))
 
 take-step-requires : tie.Need-take-step-requires Inv-loop μ-loop
 take-step-requires c κs = c .before .before .before .before .before .before .before .loop .inv .keeps .table
