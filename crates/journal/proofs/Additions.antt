@@ -2,19 +2,19 @@
 use mathlib.Core.Path.{_≡_, refl, ap, sym, _∙_}
 use mathlib.Core.Bool.{true, false, _&&_}
 use mathlib.Core.List.{List, [], _∷_}
-use Prim.Native.Nat.{ℕ, suc, _+_, _*_, _/_, _%_, _≤_, _<_}
+use Prim.Native.Nat.{ℕ, _+_, _-_, _*_, _/_, _%_, _≤_}
 use native.Mathlib.Omega.{arith}
 use lib.Dec.{leb, ltb, eqb}
 use lib.ListN.{length}
-use borrow.Author.Tests.{eq-eqb, ne-eqb, leb-true, le-leb, lt-leb}
-use Rattle.hypermap.proofs.Basics.Bools.{byCases, andLeft, andRight}
+use borrow.Author.Tests.{eq-eqb, ne-eqb, leb-true, le-leb}
+use Rattle.hypermap.proofs.Basics.Bools.{byCases, boolExt, andRight}
 use Rattle.table.specs.Limits.{wordsPerEntry, maxWord, maxCapacity, maxRing, maxEntries}
 use Rattle.table.specs.Refusals.{journalFull, orElse, unless}
 use Rattle.table.specs.Layout.{Table, capacity, isPresent}
 use Rattle.table.specs.Commands.{Command, puts, takesOut, joins, cuts, commandRefusal, commandOn, leaves}
 use Rattle.table.specs.Inner.{Accepts}
 use Rattle.table.proofs.Reading.{numberSmall}
-use Rattle.table.proofs.Stages.{passed, fitting, refusedFirst}
+use Rattle.table.proofs.Stages.{passed, fitting, refused}
 use Rattle.table.proofs.Accepting.{putPassed, takeOutPassed, joinPassed, cutPassed}
 use Rattle.rings.specs.Rings.{linksOf, isList, ringRefusal, cutAlong, cutsOf}
 use Rattle.rings.proofs.Conditions.{acceptedList}
@@ -22,7 +22,7 @@ use Rattle.tape.specs.Steps.{TapeCommand, changes, reports, cutsRing, stepRefus
 use Rattle.journal.specs.Entries.{Journal, entryOf, withEntry, withEntries}
 use Rattle.journal.specs.Heads.{hasRoom, roomRefusal}
 use Rattle.journal.specs.Journaling.{Recorded, changesIn, journaledRefusal, journaledOn}
-use Rattle.journal.specs.Inner.{recorded, journaledLeaves, IsRoom, Writable, WritableChange, Journaled, WithRoom}
+use Rattle.journal.specs.Inner.{recorded, journaledLeaves, IsRoom, Writable, WritableChange, WithinJournal, WithRoom}
 use Rattle.journal.specs.Inner.{RoomForCuts, addedOf}
 use Rattle.journal.specs.declared.Added.{Added}
 use Rattle.journal.proofs.Room.{roomKnown, oneMoreFits}
@@ -104,7 +104,7 @@ module _ (w : Table) (j : Journal) (used room : ℕ) (h : WithRoom w j used room
       changeAccepted = sym o ∙ stages .0
 
       pub changeAccepts : Accepts w c
-      changeAccepts = record { within = h .journaled .table; accepted = changeAccepted }
+      changeAccepts = record { within = h .within .table; accepted = changeAccepted }
 
       pub roomForOne : (wordsPerEntry * (used + 1) ≤ length j) × (used + 1 ≤ maxEntries)
       roomForOne =
@@ -113,7 +113,7 @@ module _ (w : Table) (j : Journal) (used room : ℕ) (h : WithRoom w j used room
 
       pub changeWritable : WritableChange j used c
       changeWritable =
-          let i = operandsSmall w (h .journaled .table .room) c changeAccepted in
+          let i = operandsSmall w (h .within .table .room) c changeAccepted in
           let r = roomForOne .0 in
           record { words = omega arith; first = i .0; second = i .1 }
 
@@ -177,35 +177,48 @@ ringShort w ws e =
     leb-true (length ws) maxRing
     (andRight (ltb 0 (length ws) && eqb (length ws % 2) 0) (leb (length ws) maxRing) (acceptedList w ws e .list))
 
+-- the ring's own refusal, and after it 18 where its entries do not fit what is left of the room
 module _
-    (w : Table) (j : Journal) (used : ℕ) (ws : List ℕ) (e : ringRefusal w ws ≡ 0) (room : ℕ) (known : IsRoom j room)
-  where
-    ringRefusalIs :
-        journaledRefusal (recorded w j used) (cutsRing ws) ≡ unless (hasRoom j (used + length ws / 2)) journalFull
-    unfolding journaledRefusal roomRefusal orElse
-    ringRefusalIs =
-        rw (eq-eqb (ringRefusal w ws) 0 e) (ap (λ n. unless (hasRoom j (used + n)) journalFull) (cutsLength ws))
+    (w : Table) (j : Journal) (used : ℕ) (ws : List ℕ) (room : ℕ) (known : IsRoom j room) (low : used ≤ room) (f : ℕ)
+    (g : f ≡ unless (leb (length ws / 2) (room - used)) journalFull) (m : ℕ) (e : m ≡ orElse (ringRefusal w ws) f) where
+  abbrev t : Recorded
+  t = recorded w j used
 
-    pub ringFull : room < used + length ws / 2 → journalFull ≡ journaledRefusal (recorded w j used) (cutsRing ws)
-    unfolding unless
-    ringFull l =
-        let f : hasRoom j (used + length ws / 2) ≡ false = known _ ∙ lt-leb _ room l in sym (ringRefusalIs ∙ rw f)
+  cutsFit : leb (length ws / 2) (room - used) ≡ hasRoom j (used + length (cutsOf (linksOf ws)))
+  cutsFit =
+      let n = length ws / 2 in
+      boolExt _ _ (λ h. let l = leb-true n (room - used) h in le-leb (used + n) room (omega arith))
+      (λ h. let l = leb-true (used + n) room h in le-leb n (room - used) (omega arith)) ∙
+      sym (known (used + n)) ∙ ap (λ k. hasRoom j (used + k)) (sym (cutsLength ws))
 
-    module _ (l : used + length ws / 2 ≤ room) where
-      pub ringFits : hasRoom j (used + length ws / 2) ≡ true
-      ringFits = known _ ∙ le-leb _ room l
+  pub ringJudged : m ≡ journaledRefusal t (cutsRing ws)
+  unfolding journaledRefusal roomRefusal
+  ringJudged =
+      e ∙ ap (orElse (ringRefusal w ws)) (g ∙ ap (λ h. unless h journalFull) cutsFit)
 
-      pub ringAccepted : 0 ≡ journaledRefusal (recorded w j used) (cutsRing ws)
-      unfolding unless
-      ringAccepted = sym (ringRefusalIs ∙ rw ringFits)
+  module _ (v : Table) (left : v ≡ leaves (orElse (ringRefusal w ws) f) (cutAlong (linksOf ws) w) w) where
+    q : v ≡ leaves m (cutAlong (linksOf ws) w) w
+    q = left ∙ ap (λ k. leaves k (cutAlong (linksOf ws) w) w) (sym e)
+
+    pub ringRefused : (m ≡ 0 → ⊥) → Adds t (cutsRing ws) (record { number = m; used = used }) v j
+    ringRefused d = rw (q ∙ sym (refused m m _ w refl d)) (refusedAdds t (cutsRing ws) m ringJudged d)
+
+    module _ (z : m ≡ 0) where
+      pub ringAccepted : ringRefusal w ws ≡ 0
+      ringAccepted = passed (ringRefusal w ws) f (sym e ∙ z) .0
 
       pub ringRoom : RoomForCuts j used (length ws)
-      ringRoom = let k = roomKnown j _ ringFits in record { inWords = k .0; inLimit = k .1 }
+      ringRoom =
+          let p = passed (ringRefusal w ws) f (sym e ∙ z) in
+          let h = fitting (leb (length ws / 2) (room - used)) journalFull (omega arith) (sym g ∙ p .1) in
+          let k = roomKnown j _ (sym cutsFit ∙ h) in
+          let c = cutsLength ws in
+          record { inWords = omega (arith, k .0); inLimit = omega (arith, k .1) }
 
-      pub ringUsed : used + length ws / 2 ≡ journaledOn (recorded w j used) (cutsRing ws) .used
-      ringUsed = ap (λ n. used + n) (sym (cutsLength ws))
-
-pub ringRefused : (w : Table) (j : Journal) (used : ℕ) (ws : List ℕ) (f : ℕ) → f ≡ ringRefusal w ws → (f ≡ 0 → ⊥) →
-    f ≡ journaledRefusal (recorded w j used) (cutsRing ws)
-unfolding journaledRefusal
-ringRefused w j used ws f e d = refusedFirst _ _ f e d
+      pub ringMade :
+          (l : Journal) → l ≡ withEntries j used (cutsOf (linksOf ws)) →
+          Adds t (cutsRing ws) (record { number = 0; used = used + length ws / 2 }) v l
+      unfolding leaves
+      ringMade l p =
+          madeAdds t (cutsRing ws) m ringJudged z _ (ap (λ n. used + n) (sym (cutsLength ws))) v
+          (q ∙ rw (eq-eqb m 0 z)) l p

@@ -13,29 +13,29 @@ use Rattle.tape.proofs.Running.{stepHolds}
 use Rattle.journal.specs.Entries.{Journal}
 use Rattle.journal.specs.Heads.{hasRoom, roomRefusal}
 use Rattle.journal.specs.Journaling.{Recorded, changesIn, journaledRefusal, journaledOn}
-use Rattle.journal.specs.Inner.{IsRoom, Journaled, addedRunOf}
+use Rattle.journal.specs.Inner.{IsRoom, WithinJournal, addedRunOf}
 use Rattle.journal.specs.declared.AddedRun.{AddedRun}
 use Rattle.journal.proofs.EntryWords.{entriesLength}
 use Rattle.journal.proofs.Room.{roomKnown, roomFrom}
 
-pub record Roomy (w₀ : Table) (j₀ : Journal) (s : Recorded) : Type 0 where
-  pub journaled : Journaled (s .table) (s .journal) (s .used)
+pub record RoomyJournal (w₀ : Table) (j₀ : Journal) (s : Recorded) : Type 0 where
+  pub within : WithinJournal (s .table) (s .journal) (s .used)
   pub size : length (s .table) ≡ length w₀
   pub journalSize : length (s .journal) ≡ length j₀
 
-pub roomyOn :
-    (w₀ : Table) (j₀ : Journal) (s : Recorded) (c : TapeCommand) → Roomy w₀ j₀ s → journaledRefusal s c ≡ 0 →
-    Roomy w₀ j₀ (journaledOn s c)
+pub roomyJournalOn :
+    (w₀ : Table) (j₀ : Journal) (s : Recorded) (c : TapeCommand) → RoomyJournal w₀ j₀ s → journaledRefusal s c ≡ 0 →
+    RoomyJournal w₀ j₀ (journaledOn s c)
 unfolding journaledRefusal roomRefusal
-roomyOn w₀ j₀ s c h e =
+roomyJournalOn w₀ j₀ s c h e =
     let n = s .used + length (changesIn c) in
     let p = passed (stepRefusal (s .table) c) (unless (hasRoom (s .journal) n) journalFull) e in
     let k = roomKnown (s .journal) n (fitting (hasRoom (s .journal) n) journalFull (omega arith) (p .1)) in
-    let t = h .journaled .table in
+    let t = h .within .table in
     let i = stepHolds (s .table) c (t .hypermap) (p .0) in
     let l = entriesLength (changesIn c) (s .journal) (s .used) in
     record {
-      journaled = record {
+      within = record {
         table = record { hypermap = i .0; room = rw (i .1) (t .room) };
         fits = roomFrom _ n (omega (arith, l, k .0)) (k .1);
       };

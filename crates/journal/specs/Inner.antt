@@ -45,18 +45,18 @@ abbrev pub WritableChange : Journal → (n : ℕ) → Command → Type 0
 WritableChange j n c = Writable j n (entryOf c .first) (entryOf c .second)
 
 -- A TABLE WITH ITS JOURNAL, of which the used entries lie in the words
-pub record Journaled (w : Table) (j : Journal) (used : ℕ) : Type 0 where
+pub record WithinJournal (w : Table) (j : Journal) (used : ℕ) : Type 0 where
   pub table : WithinCapacity w
   pub fits : hasRoom j used ≡ true
 
 -- the same, with the room for entries known
 pub record WithRoom (w : Table) (j : Journal) (used room : ℕ) : Type 0 where
-  pub journaled : Journaled w j used
+  pub within : WithinJournal w j used
   pub known : IsRoom j room
 
 -- the same, and a tape whose commands a u32 can count
 pub record Runnable (w : Table) (j : Journal) (used : ℕ) (tape : List ℕ) : Type 0 where
-  pub journaled : Journaled w j used
+  pub within : WithinJournal w j used
   pub short : length tape ≤ maxTape
 
 -- room for the entries of a ring's list

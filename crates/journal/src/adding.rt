@@ -7,12 +7,11 @@ ghost use Rattle.table.specs.Inner.{commandFor};
 ghost use Rattle.rings.specs.Rings.{linksOf, cutsOf};
 ghost use Rattle.tape.specs.Steps.{changes, cutsRing};
 ghost use Rattle.journal.specs.Entries.{withEntries};
-ghost use Rattle.journal.specs.Inner.{recorded, Journaled, RoomForCuts, journaledLeaves, addedOf};
+ghost use Rattle.journal.specs.Inner.{recorded, WithinJournal, RoomForCuts, journaledLeaves, addedOf};
 use crate::Added;
 use crate::entries;
 use crate::heads;
 use rings::cut;
-use rings::rules;
 use table::Change;
 use table::changes as table_changes;
 use table::refusals;
@@ -29,7 +28,7 @@ pub fn or_full(refusal: u8, used: u32, room: u32) -> u8
 
 // One change, for a call by itself. A run has `add`, which goes by arms.
 pub fn add_change(table: &mut [u16], journal: &mut [u16], used: u32, change: Change) -> Added
-    requires { ⌜ Journaled (now table) (now journal) used ⌝ }
+    requires { ⌜ WithinJournal (now table) (now journal) used ⌝ }
     ensures { λ r. ⌜ r ≡
         addedOf (recorded (now (table .entry)) (now (journal .entry)) used) (changes (commandFor change)) ⌝ }
     ensures table { λ r. ⌜ now (table .exit) ≡ journaledLeaves
@@ -79,7 +78,7 @@ fn write_cuts(journal: &mut [u16], used: u32, ring: &[u16])
 
 // A ring: all of its cuts have entries, or nothing changes.
 pub fn add_ring(table: &mut [u16], journal: &mut [u16], used: u32, ring: &[u16]) -> Added
-    requires { ⌜ Journaled (now table) (now journal) used ⌝ }
+    requires { ⌜ WithinJournal (now table) (now journal) used ⌝ }
     ensures { λ r. ⌜ r ≡
         addedOf (recorded (now (table .entry)) (now (journal .entry)) used) (cutsRing (now (ring .entry))) ⌝ }
     ensures table { λ r. ⌜ now (table .exit) ≡ journaledLeaves
@@ -87,24 +86,19 @@ pub fn add_ring(table: &mut [u16], journal: &mut [u16], used: u32, ring: &[u16])
     ensures journal { λ r. ⌜ now (journal .exit) ≡ journaledLeaves
         (recorded (now (table .entry)) (now (journal .entry)) used) (cutsRing (now (ring .entry))) .journal ⌝ }
 {
-    let refusal = rules::ring_refusal(table, ring);
+    let n = ring.len() / 2;
+    let room = entries::to_usize(heads::room_in(journal) - used);
+    let full = refusals::unless_so(n <= room, refusals::JOURNAL_FULL);
+    let refusal = cut::cut_ring_unless(table, ring, full);
     if refusal != 0 {
         return Added {
             number: refusal,
             used: used,
         };
     }
-    let n = (ring.len() / 2) as u32;
-    if heads::room_in(journal) - used < n {
-        return Added {
-            number: refusals::JOURNAL_FULL,
-            used: used,
-        };
-    }
-    cut::cut_along(table, ring);
     write_cuts(journal, used, ring);
     Added {
         number: 0,
-        used: used + n,
+        used: used + n as u32,
     }
 }

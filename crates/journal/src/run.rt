@@ -7,7 +7,7 @@ ghost use Rattle.tape.specs.Tapes.{numbersFrom};
 ghost use Rattle.tape.specs.Runs.{tapeRun};
 ghost use Rattle.tape.specs.Inner.{meaning};
 ghost use Rattle.journal.specs.Journaling.{journaledRefusal, journalRule};
-ghost use Rattle.journal.specs.Inner.{recorded, Journaled, WithRoom, Runnable, journaledLeaves, addedOf};
+ghost use Rattle.journal.specs.Inner.{recorded, WithinJournal, WithRoom, Runnable, journaledLeaves, addedOf};
 ghost use Rattle.journal.specs.Inner.{addedRunOf};
 use crate::Added;
 use crate::AddedRun;
@@ -87,7 +87,7 @@ fn add(table: &mut [u16], journal: &mut [u16], used: u32, room: u32, change: Cha
 
 // A ring of n double-links, whose darts stand after the count on the tape.
 fn add_tape_ring(table: &mut [u16], journal: &mut [u16], used: u32, tape: &[u8], n: u8) -> Added
-    requires { ⌜ Journaled (now table) (now journal) used ⌝ }
+    requires { ⌜ WithinJournal (now table) (now journal) used ⌝ }
     ensures { λ r. ⌜ r ≡ addedOf (recorded (now (table .entry)) (now (journal .entry)) used)
         (cutsRing (numbersFrom (2 * n) 2 (now (tape .entry)))) ⌝ }
     ensures table { λ r. ⌜ now (table .exit) ≡ journaledLeaves

@@ -26,7 +26,7 @@ use Rattle.journal.specs.Heads.{hasRoom, checkpointFits, headFits, headRefusal,
 use Rattle.journal.specs.Heads.{withCheckpoint, cutBack, setRefusal, backRefusal}
 use Rattle.journal.specs.Journaling.{Recorded, journaledRefusal, journaledOn, journalRule}
 use Rattle.journal.specs.Undoing.{undoing}
-use Rattle.journal.specs.Inner.{Journaled, Undoable, CheckpointRead, addedRunOf, undosOf}
+use Rattle.journal.specs.Inner.{WithinJournal, Undoable, CheckpointRead, addedRunOf, undosOf}
 use Rattle.journal.specs.declared.Head.{Head}
 use Rattle.journal.specs.declared.Added.{Added}
 use Rattle.journal.specs.declared.AddedRun.{AddedRun}
@@ -39,7 +39,7 @@ use Rattle.journal_calls.specs.Calls.{State, Reply, recordedIn, withReco
 use Rattle.journal_calls.specs.Calls.{performReply, journalPlayRefusal, playReply, checkpointRefusal}
 use Rattle.journal_calls.specs.Calls.{checkpointReply, backCallRefusal, undoingTo, wentBack, backReply, stateOf}
 use Rattle.journal_calls.specs.Calls.{journaledOf, journaledRunOf, undoneOf}
-use Rattle.journal_calls.specs.declared.Journaled as answers
+use Rattle.journal_calls.specs.declared.Journaled.{Journaled}
 use Rattle.journal_calls.specs.declared.JournaledRun.{JournaledRun}
 use Rattle.journal_calls.specs.declared.Undone.{Undone}
 
@@ -53,7 +53,7 @@ module _ (s : State) (e : stateRefusal s ≡ 0) where
   unfolding headRefusal
   headFit = fitting (headFits (s .journal) (s .head)) undoUnfit (omega arith) (stages .1)
 
-  pub statePassed : Journaled (s .table) (s .journal) (s .head .length)
+  pub statePassed : WithinJournal (s .table) (s .journal) (s .head .length)
   unfolding headFits
   statePassed = record {
     table = tableWithin _ (stages .0);
@@ -75,7 +75,7 @@ module _ (s : State) (e : stateRefusal s ≡ 0) where
       }
 
 -- A CHANGE OR A RING
-abbrev Performs : State → TapeCommand → answers.Journaled → Table → Journal → Type 0
+abbrev Performs : State → TapeCommand → Journaled → Table → Journal → Type 0
 Performs s c r v l =
     (r ≡ journaledOf (performReply s c)) ×
     ((v ≡ performReply s c .state .table) × (l ≡ performReply s c .state .journal))

@@ -31,7 +31,7 @@ use Rattle.journal.proofs.ComingBack.{wentBackReturnable, comesBack}
 use Rattle.journal_calls.specs.Calls.{State, recordedIn, withRecorded, stateRefusal, performRefusal, journalPlayRefusal}
 use Rattle.journal_calls.specs.Calls.{playReply, checkpointRefusal, backCallRefusal, undoingTo, wentBack, backReply}
 use Rattle.journal_calls.specs.Calls.{Call, performs, plays, setsCheckpoint, goesBack, reply}
-use Rattle.promises.specs.Journals.{stateAfter, ComesBack, Stands, Untouched, Comeback}
+use Rattle.promises.specs.Journals.{stateAfter, ComesBack, Stands, Untouched, ComesBackIf}
 use Rattle.promises.proofs.Changes.{changed}
 use Rattle.promises.proofs.JournalRefusals.{returned}
 
@@ -163,7 +163,7 @@ module _ (s : State) (c : ℕ) (e : reply s (setsCheckpoint c) .number ≡ 0) wh
         fits = andRight (hasRoom (s .journal) (h .length)) _ f;
       }
 
-pub standing : Comeback (λ s c ds. Stands c (s .head .length) (reply s (setsCheckpoint c) .state) ds)
+pub standing : ComesBackIf (λ s c ds. Stands c (s .head .length) (reply s (setsCheckpoint c) .state) ds)
 standing s c t e ds a =
     let p = s .head .length in
     let v = reply s (setsCheckpoint c) .state in
@@ -199,7 +199,7 @@ standsAtFirst s c e z =
     rw (eq-eqb (checkpointRefusal s c) 0 e) (justSet (s .head) c (omega arith))
 
 pub untouched :
-    Comeback (λ s c ds. (length (s .head .checkpoints) ≡ checkpointCount) ×
+    ComesBackIf (λ s c ds. (length (s .head .checkpoints) ≡ checkpointCount) ×
     Untouched c (s .head .length) (reply s (setsCheckpoint c) .state) ds)
 untouched s c t e ds u =
     standing s c t e ds

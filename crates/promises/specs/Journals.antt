@@ -60,8 +60,8 @@ Untouched c p s (d ∷ ds) =
 
 -- "provided only these calls wrote table and journal since, each given the head last returned". A checkpoint is set
 -- without a table; on a table that 1 or 2 refuses every other call is refused, so it stays as it was then, too
-abbrev pub Comeback : (State → ℕ → List Call → Type 0) → Type 0
-Comeback Kept =
+abbrev pub ComesBackIf : (State → ℕ → List Call → Type 0) → Type 0
+ComesBackIf Kept =
     (s : State) (c : ℕ) → tableRefusal (s .table) ≡ 0 → reply s (setsCheckpoint c) .number ≡ 0 → (ds : List Call) →
     Kept s c ds → ComesBack (stateAfter (reply s (setsCheckpoint c) .state) ds) c (s .head .length) (s .table)
 
@@ -91,9 +91,9 @@ pub record JournalPromise : Type 0 where
       (reply s (performs (cutsRing ws)) .state .table ≡ ringCallLeaves (s .table) ws)
   -- a checkpoint neither moved nor dropped is come back to, over any sequence of these calls
   pub standing :
-      Comeback (λ s c ds. Stands c (s .head .length) (reply s (setsCheckpoint c) .state) ds)
+      ComesBackIf (λ s c ds. Stands c (s .head .length) (reply s (setsCheckpoint c) .state) ds)
   pub untouched :
-      Comeback (λ s c ds. (length (s .head .checkpoints) ≡ checkpointCount) ×
+      ComesBackIf (λ s c ds. (length (s .head .checkpoints) ≡ checkpointCount) ×
       Untouched c (s .head .length) (reply s (setsCheckpoint c) .state) ds)
   -- every refusal is one of the call's numbers
   pub numbers : (s : State) (d : Call) → OneOf (reply s d .number) (journalRefusals d)

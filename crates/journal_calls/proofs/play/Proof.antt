@@ -18,7 +18,7 @@ run-tape-requires c κs =
     let e = c .before .before in
     let f = e .before in
     record {
-      journaled = statePassed _ (sym (f .state-refusal .ensures) ∙ e .if2 .left);
+      within = statePassed _ (sym (f .state-refusal .ensures) ∙ e .if2 .left);
       short = f .before .before .before .if1 .left;
     }
 

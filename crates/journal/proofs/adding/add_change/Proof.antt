@@ -17,7 +17,7 @@ known :
     (c : tie.After-room-in) →
     let s = start (c .before .before) in
     WithRoom (s .args .table .now) (s .args .journal .now) (s .args .used) (c .room-in .result)
-known c = record { journaled = start (c .before .before) .pre; known = c .room-in .ensures }
+known c = record { within = start (c .before .before) .pre; known = c .room-in .ensures }
 
 returns : tie.Need-returns
 returns c =

@@ -1,88 +1,84 @@
 use borrow.Author.Needs.{needs}
-use mathlib.Core.Path.{_≡_, refl, sym, _∙_}
-use Prim.Native.Nat.{_+_, _/_, _≤_, _<_}
+use mathlib.Core.Path.{_≡_, ap, _∙_}
+use Prim.Native.Nat.{_-_, _/_}
 use native.Mathlib.Omega.{arith}
+use lib.Dec.{leb}
 use lib.ListN.{length}
-use Rattle.rings.specs.Rings.{ringRefusal}
-use Rattle.rings.proofs.Conditions.{acceptedList}
+use Rattle.table.specs.Refusals.{journalFull, unless}
 use Rattle.journal.specs.Inner.{RoomForCuts}
 use Rattle.journal.proofs.Room.{roomLeft}
-use Rattle.journal.proofs.Additions.{refusedAdds, madeAdds, ringRefused, ringShort, ringFull, ringAccepted}
-use Rattle.journal.proofs.Additions.{ringRoom, ringUsed}
+use Rattle.journal.proofs.Additions.{ringShort, ringRefused, ringAccepted, ringRoom, ringMade}
 use Rattle.journal.proofs.adding.add_ring.Statement.{statement}
 use Rattle.journal.proofs.adding.add_ring.Tie as tie
 
-abbrev start : tie.After-ring-refusal → tie.Start
+abbrev start : tie.After-room-in → tie.Start
 start c = c .before .before .before .before .before
 
-accepted : (c : tie.Else1) → let s = start (c .before) in ringRefusal (s .args .table .now) (s .args .ring .now) ≡ 0
-accepted c = sym (c .before .ring-refusal .ensures) ∙ c .if1 .left
+sub-to-usize : tie.Need-sub-to-usize
+sub-to-usize c = roomLeft _ _ (c .room-in .ensures) _ (start c .pre .fits)
+
+-- 18 where the entries do not fit what is left of the room
+full :
+    (c : tie.After-unless-so) → let r = c .before .before in
+    c .unless-so .result ≡
+    unless (leb (length (start r .args .ring .now) / 2) (r .room-in .result - start r .args .used)) journalFull
+full c =
+    let n = length (start (c .before .before) .args .ring .now) / 2 in
+    c .unless-so .ensures ∙ ap (λ k. unless (leb n k) journalFull) (c .before .to-usize .ensures)
+
+abbrev asked : tie.After-cut-ring-unless → tie.After-room-in
+asked c = c .before .before .before .before
 
 returns : tie.Need-returns
 returns c =
-    let f = ringRefused _ _ _ _ _ (c .before .ring-refusal .ensures) (c .if1 .taken) in
-    refusedAdds _ _ _ f (c .if1 .taken)
+    let a = c .before .before .before in
+    let r = asked a in
+    ringRefused _ _ _ _ _ (r .room-in .ensures) (sub-to-usize r) _ (full (a .before .before)) _
+    (a .cut-ring-unless .ensures .0) _ (a .cut-ring-unless .ensures .1) (c .if1 .taken)
 
-cast-n : tie.Need-cast-n
-cast-n c = omega (arith, ringShort _ _ (accepted c))
+room : (c : tie.Else1) → let s = start (asked (c .before .before .before)) in
+    RoomForCuts (s .args .journal .now) (s .args .used) (length (s .args .ring .now))
+room c =
+    let a = c .before .before .before in
+    let r = asked a in
+    ringRoom _ _ _ _ _ (r .room-in .ensures) (sub-to-usize r) _ (full (a .before .before)) _
+    (a .cut-ring-unless .ensures .0) _ (a .cut-ring-unless .ensures .1) (c .if1 .left)
 
-sub-if2 : tie.Need-sub-if2
-sub-if2 c = roomLeft _ _ (c .room-in .ensures) _ (start (c .before .before .before) .pre .fits)
-
--- the entries of all cuts fit the room
-fits : (c : tie.Else2) → let s = start (c .before .before .before .before) in
-    s .args .used + length (s .args .ring .now) / 2 ≤ c .before .room-in .result
-fits c = omega (arith, sub-if2 (c .before), c .if2 .left)
+cast-t10 : tie.Need-cast-t10
+cast-t10 c =
+    let e = c .before .before .before .before in
+    let a = e .before .before .before in
+    let r = asked a in
+    omega (
+      arith,
+      ringShort _ _ (ringAccepted _ _ _ _ _ (r .room-in .ensures) (sub-to-usize r) _
+          (full (a .before .before)) _ (a .cut-ring-unless .ensures .0) _ (a .cut-ring-unless .ensures .1) (e .if1 .left)),
+    )
 
 returns-2 : tie.Need-returns-2
 returns-2 c =
-    let r = c .before in
-    let e = r .before .before in
-    let s = start (e .before) in
-    let full : r .room-in .result < s .args .used + length (s .args .ring .now) / 2 =
-    omega (arith, sub-if2 r, c .if2 .taken) in
-    refusedAdds _ _ _ (ringFull _ _ _ _ (accepted e) _ (r .room-in .ensures) full) (λ z. absurd (omega arith))
-
-cut-along-requires : tie.Need-cut-along-requires
-cut-along-requires c κs =
-    let e = c .before .before .before .before in
-    let p = start (e .before) .pre .table in
-    record { hypermap = p .hypermap; room = p .room; darts = acceptedList _ _ (accepted e) .darts }
-
-room : (c : tie.Else2) → let s = start (c .before .before .before .before) in
-    RoomForCuts (s .args .journal .now) (s .args .used) (length (s .args .ring .now))
-room c =
-    let r = c .before in ringRoom _ _ _ _ (accepted (r .before .before)) _ (r .room-in .ensures) (fits c)
-
-add-t12 : tie.Need-add-t12
-add-t12 c = omega (arith, room (c .before .before .before .before .before .before .before .before) .inLimit)
-
-returns-3 : tie.Need-returns-3
-returns-3 c =
-    let k = c .before .before in
-    let a = k .before .before .before .before in
-    let l = a .before .before in
-    let r = l .before in
-    let e = accepted (r .before .before) in
-    madeAdds _ _ _ (ringAccepted _ _ _ _ e _ (r .room-in .ensures) (fits l)) refl _
-    (ringUsed _ _ _ _ e _ (r .room-in .ensures) (fits l)) _ (a .cut-along .ensures) _ (k .write-cuts .ensures)
+    let w = c .before .before in
+    let e = w .before .before in
+    let a = e .before .before .before in
+    let r = asked a in
+    ringMade _ _ _ _ _ (r .room-in .ensures) (sub-to-usize r) _ (full (a .before .before)) _
+    (a .cut-ring-unless .ensures .0) _ (a .cut-ring-unless .ensures .1) (e .if1 .left) _ (w .write-cuts .ensures)
 
 pub add-ring-spec : {M : Type 1} → statement M
 add-ring-spec =
     tie.close
     (tie.spec
     (λ c κs. search needs)
+    sub-to-usize
+    (λ c κs. search needs)
+    (λ c κs. search needs)
+    (λ c κs. search needs)
+    (λ c. search needs)
     (λ c. search needs)
     returns
-    cast-n
-    (λ c κs. search needs)
-    sub-if2
+    (λ c κs. room (c .before))
+    cast-t10
+    (λ c. omega (arith, room (c .before .before .before .before) .inLimit))
     (λ c. search needs)
     (λ c. search needs)
-    returns-2
-    cut-along-requires
-    (λ c κs. room (c .before .before .before .before .before))
-    add-t12
-    (λ c. search needs)
-    (λ c. search needs)
-    returns-3)
+    returns-2)

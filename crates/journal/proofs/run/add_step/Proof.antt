@@ -11,7 +11,7 @@ returns c =
 returns-2 : tie.Need-returns-2
 returns-2 c =
     let s = c .before .before .before .before .before in
-    rw (c .enum-told .given .1) (reportAdds _ _ _ (s .pre .journaled .fits))
+    rw (c .enum-told .given .1) (reportAdds _ _ _ (s .pre .within .fits))
 
 returns-3 : tie.Need-returns-3
 returns-3 c =
@@ -26,7 +26,7 @@ add-step-spec =
     (λ c κs. search needs)
     (λ c. search needs)
     (λ c. search needs)
-    (λ c κs. c .before .before .before .before .before .before .before .before .pre .journaled)
+    (λ c κs. c .before .before .before .before .before .before .before .before .pre .within)
     (λ c. search needs)
     (λ c. search needs)
     returns

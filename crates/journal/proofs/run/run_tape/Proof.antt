@@ -7,14 +7,15 @@ use Rattle.tape.proofs.Playing.{wholeFits, restLess, Playing, playingFirst, pla
 use Rattle.tape.proofs.Playing.{playingStopped, playingOn}
 use Rattle.journal.specs.Journaling.{journalRule}
 use Rattle.journal.specs.Inner.{recorded}
-use Rattle.journal.proofs.Running.{Roomy, roomyOn, sameRoom, told}
+use Rattle.journal.proofs.Running.{RoomyJournal, roomyJournalOn, sameRoom, told}
 use Rattle.journal.proofs.Additions.{stepLeft}
 use Rattle.journal.proofs.run.run_tape.Statement.{statement}
 use Rattle.journal.proofs.run.run_tape.Tie as tie
 
 abbrev Inv-loop : tie.InvT-loop
 Inv-loop table₀ journal₀ used tape operand-bytes room rest₀ accepted₀ n₀ table journal rest accepted n =
-    Playing journalRule (Roomy table₀ journal₀) (recorded table₀ journal₀ used) tape (recorded table journal n) rest
+    Playing journalRule (RoomyJournal table₀ journal₀) (recorded table₀ journal₀ used) tape
+    (recorded table journal n) rest
     accepted
 
 abbrev μ-loop : tie.MeasureT-loop
@@ -23,7 +24,7 @@ abbrev μ-loop : tie.MeasureT-loop
 loop-holds : tie.Need-loop-holds Inv-loop μ-loop
 loop-holds c =
     let start = c .before .before .before .before .before in
-    playingFirst journalRule _ _ _ (record { journaled = start .pre .journaled; size = refl; journalSize = refl })
+    playingFirst journalRule _ _ _ (record { within = start .pre .within; size = refl; journalSize = refl })
 
 read-requires : tie.Need-read-requires Inv-loop μ-loop
 unfolding operandBytes
@@ -43,7 +44,7 @@ add-step-requires : tie.Need-add-step-requires Inv-loop μ-loop
 add-step-requires c κs =
     let l = atLoop (c .before .before .before .before .before) in
     let k = l .loop .inv .keeps in
-    record { journaled = k .journaled; known = sameRoom _ _ _ (l .before .room-in .ensures) (k .journalSize) }
+    record { within = k .within; known = sameRoom _ _ _ (l .before .room-in .ensures) (k .journalSize) }
 
 -- the step that was made, and what it left
 abbrev step : tie.After-struct-known Inv-loop μ-loop → tie.After-add-step Inv-loop μ-loop
@@ -95,7 +96,7 @@ loop-again c =
     let d = r .before .before in
     let q = stepLeft _ _ _ _ _ (p .add-step .ensures) in
     playingOn journalRule _ _ _ _ _ _ (atLoop d .loop .inv) (d .before .before .loop-test .taken) _
-    (d .read .ensures) _ _ (r .reading .given .1) _ (q .0) _ (q .1) (roomyOn _ _) (c .before .if1 .left)
+    (d .read .ensures) _ _ (r .reading .given .1) _ (q .0) _ (q .1) (roomyJournalOn _ _) (c .before .if1 .left)
 
 pub run-tape-spec : {M : Type 1} → statement M
 run-tape-spec =
