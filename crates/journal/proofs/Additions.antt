@@ -1,6 +1,6 @@
 -- One change and one ring, made and written into the journal, or refused. Assumes nothing.
 use mathlib.Core.Path.{_≡_, refl, ap, sym, _∙_}
-use mathlib.Core.Bool.{true, false, _&&_}
+use mathlib.Core.Bool.{true, _&&_}
 use mathlib.Core.List.{List, [], _∷_}
 use Prim.Native.Nat.{ℕ, _+_, _-_, _*_, _/_, _%_, _≤_}
 use native.Mathlib.Omega.{arith}
@@ -10,7 +10,7 @@ use borrow.Author.Tests.{eq-eqb, ne-eqb, leb-true, le-leb}
 use Rattle.hypermap.proofs.Basics.Bools.{byCases, boolExt, andRight}
 use Rattle.table.specs.Limits.{wordsPerEntry, maxWord, maxCapacity, maxRing, maxEntries}
 use Rattle.table.specs.Refusals.{journalFull, orElse, unless}
-use Rattle.table.specs.Layout.{Table, capacity, isPresent}
+use Rattle.table.specs.Layout.{Table, capacity}
 use Rattle.table.specs.Commands.{Command, puts, takesOut, joins, cuts, commandRefusal, commandOn, leaves}
 use Rattle.table.specs.Inner.{Accepts}
 use Rattle.table.proofs.Reading.{numberSmall}
@@ -18,11 +18,11 @@ use Rattle.table.proofs.Stages.{passed, fitting, refused}
 use Rattle.table.proofs.Accepting.{putPassed, takeOutPassed, joinPassed, cutPassed}
 use Rattle.rings.specs.Rings.{linksOf, isList, ringRefusal, cutAlong, cutsOf}
 use Rattle.rings.proofs.Conditions.{acceptedList}
-use Rattle.tape.specs.Steps.{TapeCommand, changes, reports, cutsRing, stepRefusal}
+use Rattle.tape.specs.Steps.{TapeCommand, changes, reports, cutsRing}
 use Rattle.journal.specs.Entries.{Journal, entryOf, withEntry, withEntries}
 use Rattle.journal.specs.Heads.{hasRoom, roomRefusal}
-use Rattle.journal.specs.Journaling.{Recorded, changesIn, journaledRefusal, journaledOn}
-use Rattle.journal.specs.Inner.{recorded, journaledLeaves, IsRoom, Writable, WritableChange, WithinJournal, WithRoom}
+use Rattle.journal.specs.Journaling.{Recorded, journaledRefusal, journaledOn}
+use Rattle.journal.specs.Inner.{recorded, journaledLeaves, IsRoom, WritableChange, WithRoom}
 use Rattle.journal.specs.Inner.{RoomForCuts, addedOf}
 use Rattle.journal.specs.declared.Added.{Added}
 use Rattle.journal.proofs.Room.{roomKnown, oneMoreFits}

@@ -1,16 +1,16 @@
 -- What the entries of a journal lead back to, undone from the latest: a change adds its own undo, and going back takes
 -- undos away, wherever it is stopped. Assumes nothing.
-use mathlib.Core.Path.{_≡_, refl, ap, sym, _∙_}
+use mathlib.Core.Path.{_≡_, refl, sym, _∙_}
 use mathlib.Core.Bool.{true}
 use mathlib.Core.List.{List, [], _∷_}
 use Prim.Native.Nat.{ℕ, zero, suc, _+_, _-_, _*_, _%_, _≤_, _<_}
 use native.Mathlib.Omega.{arith}
 use lib.Dec.{eqb}
 use lib.ListN.{length}
-use borrow.Author.Tests.{eqb-true, eq-eqb}
-use Rattle.hypermap.proofs.Basics.Bools.{byCases, andRight}
+use borrow.Author.Tests.{eq-eqb}
+use Rattle.hypermap.proofs.Basics.Bools.{byCases}
 use Rattle.table.specs.Limits.{wordsPerDart, wordsPerEntry}
-use Rattle.table.specs.Refusals.{undoUnfit, journalFull, unless}
+use Rattle.table.specs.Refusals.{journalFull, unless}
 use Rattle.table.specs.Layout.{Table, holdsHypermap}
 use Rattle.table.specs.Commands.{Command, commandRefusal, commandOn, opposite}
 use Rattle.table.specs.Runs.{commandRule, runBy, afterAll, AllAccepted}
@@ -20,7 +20,7 @@ use Rattle.table.proofs.Opposites.{oppositeLaw}
 use Rattle.table.proofs.Runs.{runLaw, runWhole, runKeeps}
 use Rattle.rings.proofs.RingCuts.{ringCutsLaw}
 use Rattle.tape.specs.Steps.{TapeCommand, changes, reports, cutsRing, stepRefusal, stepOn}
-use Rattle.journal.specs.Entries.{Journal, Entry, entryOf, isChange, commandIn, entryAt, withEntry, withEntries}
+use Rattle.journal.specs.Entries.{Journal, Entry, entryOf, commandIn, entryAt, withEntry, withEntries}
 use Rattle.journal.specs.Heads.{hasRoom, roomRefusal}
 use Rattle.journal.specs.Journaling.{changesIn, Recorded, journaledRefusal, journaledOn, journalRule}
 use Rattle.journal.specs.Undoing.{undoRefusal, undoOn, undoRule, latestFirst, undoing}

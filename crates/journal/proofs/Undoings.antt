@@ -1,7 +1,7 @@
 -- One entry undone, by its byte, and the loop that goes back entry by entry. Assumes nothing.
 use mathlib.Core.Path.{_≡_, refl, ap, sym, _∙_}
-use mathlib.Core.Bool.{Bool, true, false, _&&_, _||_, cond}
-use mathlib.Core.List.{[], _∷_}
+use mathlib.Core.Bool.{true, false, _&&_, cond}
+use mathlib.Core.List.{_∷_}
 use Prim.Native.Nat.{ℕ, zero, suc, _+_, _-_, _*_, _≤_, _<_}
 use native.Mathlib.Omega.{arith}
 use lib.Dec.{leb, ltb, eqb}
@@ -12,7 +12,7 @@ use Rattle.table.specs.Limits.{wordsPerEntry}
 use Rattle.table.specs.Refusals.{undoUnfit, unless}
 use Rattle.table.specs.Layout.{Table}
 use Rattle.table.specs.Commands.{Command, opposite, commandRefusal, commandOn, leaves}
-use Rattle.table.specs.Runs.{Outcome, stopped, runBy, ruleLeaves}
+use Rattle.table.specs.Runs.{runBy, ruleLeaves}
 use Rattle.table.specs.Inner.{WithinCapacity, Accepts}
 use Rattle.table.proofs.Stages.{fitting}
 use Rattle.table.proofs.Commands.{keepsHypermapLaw}

@@ -1,7 +1,7 @@
 -- The head of a journal: how many entries are used, and sixteen checkpoints, which document 02, Job 5, calls marks.
 -- Assumes nothing: these are definitions.
 use mathlib.Core.Bool.{Bool, _&&_, _||_, not, cond}
-use mathlib.Core.List.{List, map}
+use mathlib.Core.List.{map}
 use Prim.Native.Nat.{ℕ, _+_, _*_}
 use lib.Dec.{leb, ltb, eqb}
 use lib.ListN.{length, getD, set}

@@ -1,32 +1,30 @@
 -- What each call answers and leaves: refused by the table or the head, or by what the inner functions answer. Assumes
 -- nothing.
 use mathlib.Core.Path.{_≡_, refl, ap, sym, _∙_}
-use mathlib.Core.Bool.{true, _&&_, not}
+use mathlib.Core.Bool.{true}
 use mathlib.Core.List.{List}
 use Prim.Native.Nat.{ℕ, _-_, _≤_, _<_}
 use native.Mathlib.Omega.{arith}
 use lib.Dec.{leb, ltb, eqb}
 use lib.ListN.{length}
 use borrow.Author.Tests.{eq-eqb, ne-eqb, le-leb, lt-leb, ltb-true}
-use Rattle.hypermap.specs.Lists.{all}
 use Rattle.hypermap.proofs.Basics.Bools.{byCases, andLeft, andRight}
 use Rattle.table.specs.Limits.{maxTape, checkpointCount}
 use Rattle.table.specs.Limits as limits
 use Rattle.table.specs.Refusals.{wrongSize, undoUnfit, noMark, orElse, unless}
 use Rattle.table.specs.Layout.{Table}
 use Rattle.table.specs.Commands.{leaves}
-use Rattle.table.specs.Runs.{Outcome, stopped}
 use Rattle.table.proofs.Stages.{passed, fitting, refusedFirst}
 use Rattle.tape.specs.Steps.{TapeCommand}
 use Rattle.tape.specs.Runs.{tapeRun}
 use Rattle.soundness.specs.Soundness.{tableRefusal, tapeRefusal}
 use Rattle.soundness.proofs.Passing.{tableWithin}
 use Rattle.journal.specs.Entries.{Journal}
-use Rattle.journal.specs.Heads.{hasRoom, checkpointFits, headFits, headRefusal, checkpointOf, withLength}
+use Rattle.journal.specs.Heads.{hasRoom, headFits, headRefusal, checkpointOf, withLength}
 use Rattle.journal.specs.Heads.{withCheckpoint, cutBack, setRefusal, backRefusal}
-use Rattle.journal.specs.Journaling.{Recorded, journaledRefusal, journaledOn, journalRule}
+use Rattle.journal.specs.Journaling.{journaledRefusal, journalRule}
 use Rattle.journal.specs.Undoing.{undoing}
-use Rattle.journal.specs.Inner.{WithinJournal, Undoable, CheckpointRead, addedRunOf, undosOf}
+use Rattle.journal.specs.Inner.{WithinJournal, Undoable, addedRunOf, undosOf}
 use Rattle.journal.specs.declared.Head.{Head}
 use Rattle.journal.specs.declared.Added.{Added}
 use Rattle.journal.specs.declared.AddedRun.{AddedRun}
@@ -35,9 +33,9 @@ use Rattle.journal.proofs.Additions.{Adds}
 use Rattle.journal.proofs.Room.{roomKnown}
 use Rattle.journal.proofs.Checkpoints.{setCheckpointLow}
 use Rattle.journal.proofs.Undoings.{undoneAtMost}
-use Rattle.journal_calls.specs.Calls.{State, Reply, recordedIn, withRecorded, stateRefusal, performRefusal}
+use Rattle.journal_calls.specs.Calls.{State, recordedIn, stateRefusal, performRefusal}
 use Rattle.journal_calls.specs.Calls.{performReply, journalPlayRefusal, playReply, checkpointRefusal}
-use Rattle.journal_calls.specs.Calls.{checkpointReply, backCallRefusal, undoingTo, wentBack, backReply, stateOf}
+use Rattle.journal_calls.specs.Calls.{checkpointReply, backCallRefusal, backReply, stateOf}
 use Rattle.journal_calls.specs.Calls.{journaledOf, journaledRunOf, undoneOf}
 use Rattle.journal_calls.specs.declared.Journaled.{Journaled}
 use Rattle.journal_calls.specs.declared.JournaledRun.{JournaledRun}

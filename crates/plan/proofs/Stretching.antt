@@ -22,7 +22,7 @@ use Rattle.tape.specs.declared.Reading.the-variants.{Whole, Refused}
 use Rattle.tape.proofs.Contents.{sizeFits, restShorter}
 use Rattle.tape.proofs.Playing.{runNone, runRefused, runStopped, runOn, wholeRead}
 use Rattle.tape.proofs.Running.{leavesWithin}
-use Rattle.writer.specs.Inner.{HasRoom, Lays}
+use Rattle.writer.specs.Inner.{Lays}
 use Rattle.writer.proofs.Laying.{laysNone, laysThen, laysLength, laysWhole}
 use Rattle.plan.specs.Lines.{refusedLine, acceptedLine, linesOf}
 use Rattle.plan.specs.Inner.{instructionLine, full, Ready, IsStretch}

@@ -3,15 +3,15 @@
 use mathlib.Core.Path.{_≡_, refl, sym, ap, _∙_}
 use mathlib.Core.Bool.{true}
 use mathlib.Core.List.{List, [], _∷_}
-use Prim.Native.Nat.{ℕ, _*_, _≤_, _<_}
+use Prim.Native.Nat.{ℕ, _*_, _≤_}
 use native.Mathlib.Omega.{arith}
 use lib.Dec.{eqb}
 use lib.ListN.{length}
-use borrow.Author.Tests.{eqb-true, eqb-false, eq-eqb, ne-eqb}
+use borrow.Author.Tests.{eqb-true, eqb-false, eq-eqb}
 use Rattle.hypermap.specs.Lists.{among, all}
 use Rattle.hypermap.proofs.Basics.Bools.{byCases}
 use Rattle.table.specs.Refusals.{wrongSize, unknownCommand, tornCommand}
-use Rattle.table.specs.Limits.{wordsPerDart, maxTape}
+use Rattle.table.specs.Limits.{wordsPerDart}
 use Rattle.table.specs.Layout.{Table, capacity, holdsHypermap}
 use Rattle.table.specs.Runs.{AllAccepted}
 use Rattle.table.proofs.Stages.{passed}

@@ -1,6 +1,6 @@
 -- A run is a fold of its commands, and how a loop makes it: k commands are accepted, and the outcome of the whole is
 -- that of the rest with k more. Assumes nothing.
-use mathlib.Core.Path.{_≡_, refl, ap, _∙_}
+use mathlib.Core.Path.{_≡_, refl, ap}
 use mathlib.Core.List.{List, [], _∷_, _++_}
 use Prim.Native.Nat.{ℕ, suc, _+_}
 use native.Mathlib.Omega.{arith}

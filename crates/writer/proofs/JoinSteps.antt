@@ -2,7 +2,7 @@
 -- Assumes nothing.
 use mathlib.Core.Path.{_≡_, refl, ap, sym, _∙_}
 use mathlib.Core.Bool.{true, false}
-use mathlib.Core.List.{List, [], _∷_, _++_, map}
+use mathlib.Core.List.{List, [], _∷_, map}
 use Prim.Native.Nat.{ℕ}
 use lib.ListN.{length}
 use Rattle.hypermap.specs.Lists.{among, distinct}
@@ -20,7 +20,7 @@ use Rattle.table.specs.Runs.{afterAll, AllAccepted}
 use Rattle.table.proofs.Holding.{memPresent, tableHypermap}
 use Rattle.table.proofs.Accepting.{joinFits}
 use Rattle.table.proofs.Swaps.{swapLaw}
-use Rattle.tape.specs.Steps.{TapeCommand, changes, stepOn, stepRule}
+use Rattle.tape.specs.Steps.{changes, stepRule}
 use Rattle.writer.proofs.Cycles.{turn}
 
 pub samePresent : (v w : Table) → hypermapOf v .darts ≡ hypermapOf w .darts → (x : ℕ) → isPresent v x ≡ isPresent w x

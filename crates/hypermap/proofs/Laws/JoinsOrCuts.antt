@@ -1,6 +1,6 @@
 -- LAW 4, of orbits: a change joins two orbits or cuts one, by the splicing of total steps. Assumes nothing.
-use mathlib.Core.Path.{_≡_, sym, subst}
-use mathlib.Core.Bool.{true, false, not}
+use mathlib.Core.Path.{_≡_, subst}
+use mathlib.Core.Bool.{true, false}
 use mathlib.Core.List.{List}
 use mathlib.Core.Logic.{_↔_}
 use Prim.Native.Nat.{ℕ}
@@ -11,7 +11,7 @@ use Rattle.hypermap.proofs.Basics.Bools.{byCases, clash, refuted}
 use Rattle.hypermap.proofs.Basics.Lists.{Mem}
 use Rattle.hypermap.proofs.Permutations.Reaching.{Permutation, reachBack}
 use Rattle.hypermap.proofs.Permutations.Splicing.{after, afterPermutation, joined, parted}
-use Rattle.hypermap.proofs.Permutations.Joining.{changed, changedAt}
+use Rattle.hypermap.proofs.Permutations.Joining.{changedAt}
 use Rattle.hypermap.proofs.Hypermaps.Totals.{backs}
 use Rattle.hypermap.proofs.Hypermaps.TotalCounts.{sameOrbitIs, falling, fallingIn, fallingPermutations}
 use Rattle.hypermap.proofs.Hypermaps.TotalCounts.{backsChanged}

@@ -1,6 +1,5 @@
 use borrow.Author.Needs.{needs}
 use mathlib.Core.Path.{sym, _∙_}
-use native.Mathlib.Omega.{arith}
 use Rattle.journal_calls.proofs.Replies.{statePassed, playLong, playBent, played}
 use Rattle.journal_calls.proofs.play.Statement.{statement}
 use Rattle.journal_calls.proofs.play.Tie as tie

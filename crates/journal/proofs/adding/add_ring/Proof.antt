@@ -49,11 +49,9 @@ cast-t10 c =
     let e = c .before .before .before .before in
     let a = e .before .before .before in
     let r = asked a in
-    omega (
-      arith,
-      ringShort _ _ (ringAccepted _ _ _ _ _ (r .room-in .ensures) (sub-to-usize r) _
-          (full (a .before .before)) _ (a .cut-ring-unless .ensures .0) _ (a .cut-ring-unless .ensures .1) (e .if1 .left)),
-    )
+    let o = ringAccepted _ _ _ _ _ (r .room-in .ensures) (sub-to-usize r) _ (full (a .before .before)) _
+    (a .cut-ring-unless .ensures .0) _ (a .cut-ring-unless .ensures .1) (e .if1 .left) in
+    omega (arith, ringShort _ _ o)
 
 returns-2 : tie.Need-returns-2
 returns-2 c =

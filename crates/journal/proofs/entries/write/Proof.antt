@@ -1,5 +1,4 @@
 use borrow.Author.Needs.{needs}
-use native.Mathlib.Omega.{arith}
 use lib.ListN.{length-set}
 use Rattle.journal.specs.Entries.{withEntry}
 use Rattle.journal.proofs.entries.write.Statement.{statement}
