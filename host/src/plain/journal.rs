@@ -1,5 +1,5 @@
 //! The calls on a journal in plain Rust. The table is judged once, and then the head; each change is judged by its own
-//! rules and by the room for its entry, made, and written behind the others.
+//! rules and by the room for its entry, made, and written after the others.
 
 use super::{
     command_size, cut_all, cut_refusal, join_refusal, number_at, put_refusal, ring_at, ring_refusal, set_all, swap,

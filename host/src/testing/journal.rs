@@ -88,7 +88,7 @@ impl Kept {
         self.plan.as_ref().map_or(0, |plan| plan.refusal(command))
     }
 
-    /// Whether the entries of a command fit behind so many others.
+    /// Whether the entries of a command fit after so many others.
     pub fn has_room(&self, length: u32, command: &Command) -> bool {
         u64::from(length) + changes(command).len() as u64 <= most_entries(self.journal.len())
     }
