@@ -1,6 +1,6 @@
 /* A planning screen in a few lines: it builds a tape for a square of four darts and a ring that parts it, asks what the
- * tape needs, has the kernel play it, prints the report, and names the refusal where there is one. What it prints is
- * for the yard, in document 01's words; the header has both.
+ * tape needs, has the kernel play it, prints the report, asks how far two darts are apart round a vertex, and names the
+ * refusal where there is one. What it prints is for the yard, in document 01's words; the header has both.
  *
  *     rt staticlib c_calls
  *     cc -Iinclude examples/planner.c target/staticlib/libc_calls.a -o target/planner
@@ -70,6 +70,19 @@ static int show(const struct tape *tape) {
     return 0;
 }
 
+/* On the plan that the tape leaves. */
+static void show_distance(const struct tape *tape, uint32_t a, uint32_t b) {
+    uint16_t table[4 * LOTSKADI_WORDS_PER_DART] = {0};
+    const size_t words = sizeof table / sizeof table[0];
+    lotskadi_play(table, words, tape->bytes, tape->length);
+    struct lotskadi_answer same = lotskadi_same_vertex(table, words, a, b);
+    if (same.yes) {
+        printf("from tab %" PRIu32 " to tab %" PRIu32 " round their cell: %" PRIu32 "\n", a, b, same.count);
+    } else {
+        printf("tabs %" PRIu32 " and %" PRIu32 " are in different cells\n", a, b);
+    }
+}
+
 int main(void) {
     struct tape tape = {.length = 0};
     for (uint16_t dart = 1; dart <= 4; dart++) {
@@ -89,7 +102,9 @@ int main(void) {
     if (show(&tape) != 0) {
         return 1;
     }
-    /* darts 1 and 3 still share a vertex: joining them again is refused */
+    show_distance(&tape, 1, 2);
+    show_distance(&tape, 1, 3);
+    /* darts 1 and 3 share a vertex: joining them again is refused */
     write_pair(&tape, 5, 1, 3);
     return show(&tape);
 }

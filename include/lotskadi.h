@@ -119,7 +119,7 @@ struct lotskadi_totals {
 struct lotskadi_answer {
     uint8_t number; /* the refusal, or 0 */
     bool yes;       /* of lotskadi_same_..; else false */
-    uint32_t count; /* how many words or bytes were written; 0 of lotskadi_same_.. */
+    uint32_t count; /* how many words or bytes were written; of lotskadi_same_.. see there */
 };
 
 /* What a run returns. */
@@ -196,7 +196,11 @@ struct lotskadi_totals lotskadi_report(const uint16_t *table, size_t table_words
  * each number adds up to lotskadi_report's. Refusals: 1 2 3 4. */
 struct lotskadi_totals lotskadi_component_report(const uint16_t *table, size_t table_words, uint32_t dart);
 
-/* Whether a and b share an edge, a vertex, a face or a component. Refusals: 1 2 3 4. */
+/* Whether a and b share an edge, a vertex, a face or a component. In one edge or vertex the count is how far b is from
+ * a: the fewest steps, each to the successor. It is less than the darts of that edge or vertex, and 0 if a and b are
+ * one dart. Otherwise the count is 0: where they share none, and for a face and a component. Where the question is not
+ * refused, a join of the two is accepted exactly if yes is false, and a cut exactly if the count is not 0.
+ * Refusals: 1 2 3 4. */
 struct lotskadi_answer lotskadi_same_edge(const uint16_t *table, size_t table_words, uint32_t a, uint32_t b);
 struct lotskadi_answer lotskadi_same_vertex(const uint16_t *table, size_t table_words, uint32_t a, uint32_t b);
 struct lotskadi_answer lotskadi_same_face(const uint16_t *table, size_t table_words, uint32_t a, uint32_t b);

@@ -477,30 +477,37 @@ static void reports_of_components(void) {
     }
 }
 
-/* SHARED PARTS, in the square and a dart */
+/* SHARED PARTS, and how far round */
 
 static const struct {
     const char *what;
     struct lotskadi_answer (*same)(const uint16_t *table, size_t table_words, uint32_t a, uint32_t b);
+    const uint16_t *plan;
     uint32_t a, b;
-    bool yes;
+    struct lotskadi_answer expected;
 } shared[] = {
-    {"one edge", lotskadi_same_edge, 1, 2, true},
-    {"two edges", lotskadi_same_edge, 1, 3, false},
-    {"one vertex", lotskadi_same_vertex, 1, 3, true},
-    {"two vertices", lotskadi_same_vertex, 1, 2, false},
-    {"one face", lotskadi_same_face, 1, 4, true},
-    {"two faces", lotskadi_same_face, 1, 2, false},
-    {"one component", lotskadi_same_component, 1, 4, true},
-    {"two components", lotskadi_same_component, 1, 5, false},
+    {"one edge", lotskadi_same_edge, square_and_dart, 1, 2, {0, true, 1}},
+    {"two edges", lotskadi_same_edge, square_and_dart, 1, 3, {0, false, 0}},
+    {"one vertex", lotskadi_same_vertex, square_and_dart, 1, 3, {0, true, 1}},
+    {"two vertices", lotskadi_same_vertex, square_and_dart, 1, 2, {0, false, 0}},
+    {"one face", lotskadi_same_face, square_and_dart, 1, 4, {0, true, 0}},
+    {"two faces", lotskadi_same_face, square_and_dart, 1, 2, {0, false, 0}},
+    {"one component", lotskadi_same_component, square_and_dart, 1, 4, {0, true, 0}},
+    {"two components", lotskadi_same_component, square_and_dart, 1, 5, {0, false, 0}},
+    {"an edge of its own", lotskadi_same_edge, square_and_dart, 5, 5, {0, true, 0}},
+    {"the dart itself", lotskadi_same_vertex, three_rounds, 4, 4, {0, true, 0}},
+    {"two steps round an edge", lotskadi_same_edge, three_rounds, 1, 3, {0, true, 2}},
+    {"one step, the other way", lotskadi_same_edge, three_rounds, 3, 1, {0, true, 1}},
+    {"two steps round a vertex", lotskadi_same_vertex, three_rounds, 4, 1, {0, true, 2}},
+    {"one step round a vertex", lotskadi_same_vertex, three_rounds, 1, 4, {0, true, 1}},
+    {"three steps round a face", lotskadi_same_face, three_rounds, 1, 4, {0, true, 0}},
 };
 
 static void parts_shared(void) {
     for (size_t i = 0; i < sizeof shared / sizeof shared[0]; i++) {
-        const struct lotskadi_answer expected = {0, shared[i].yes, 0};
-        const uint16_t *words = lend_words(&table, square_and_dart, WORDS);
-        expect_answer(shared[i].what, shared[i].same(words, WORDS, shared[i].a, shared[i].b), expected);
-        expect_words(shared[i].what, &table, square_and_dart, WORDS);
+        const uint16_t *words = lend_words(&table, shared[i].plan, WORDS);
+        expect_answer(shared[i].what, shared[i].same(words, WORDS, shared[i].a, shared[i].b), shared[i].expected);
+        expect_words(shared[i].what, &table, shared[i].plan, WORDS);
     }
 }
 

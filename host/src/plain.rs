@@ -263,26 +263,56 @@ fn presence(table: &[u16], tabs: &[u16]) -> u8 {
     }
 }
 
-/// Walks from both tabs in lockstep, so that the shorter orbit is the cost.
-fn together(table: &[u16], dimension: Dimension, a: u16, b: u16) -> bool {
-    let next = |x: u16| table[at(x) + dimension as usize];
-    let (mut x, mut y) = (a, b);
+/// How far the second tab is from the first round an orbit. A walk goes forward from the first and one back from the
+/// second, a step each in turn; if either comes home before they meet, the tabs are in different orbits, so that the
+/// shorter orbit is the cost.
+fn distance(next: impl Fn(u16) -> u16, back: impl Fn(u16) -> u16, a: u16, b: u16) -> Option<u16> {
+    let (mut x, mut y, mut steps) = (a, b, 0);
     loop {
-        if y == a {
-            return true;
+        if x == y {
+            return Some(steps);
         }
-        y = next(y);
+        y = back(y);
         if y == b {
-            return false;
+            return None;
         }
-        if x == b {
-            return true;
+        if x == y {
+            return Some(steps + 1);
         }
         x = next(x);
         if x == a {
-            return false;
+            return None;
         }
+        steps += 2;
     }
+}
+
+fn together(table: &[u16], dimension: Dimension, a: u16, b: u16) -> bool {
+    let word = |place: usize| move |x: u16| table[at(x) + place];
+    distance(word(dimension as usize), word(dimension as usize + 1), a, b).is_some()
+}
+
+/// Whether two tabs share an orbit, by the walk that asks how far they are apart.
+fn same(table: &[u16], a: u16, b: u16, walk: impl FnOnce() -> Option<u16>) -> Answer {
+    let number = match table_refusal(table) {
+        0 => presence(table, &[a, b]),
+        refusal => refusal,
+    };
+    if number != 0 {
+        return Answer { number, ..Answer::default() };
+    }
+    let steps = walk();
+    Answer { number: 0, yes: steps.is_some(), count: u32::from(steps.unwrap_or(0)) }
+}
+
+pub fn same_tie(table: &[u16], a: u16, b: u16) -> Answer {
+    same(table, a, b, || distance(|x| table[at(x)], |x| table[at(x) + 1], a, b))
+}
+
+/// The count of this answer is 0.
+pub fn same_gap(table: &[u16], a: u16, b: u16) -> Answer {
+    let back = |x: u16| tie_step(table, cell_step(table, x));
+    same(table, a, b, || distance(|x| gap_step(table, x), back, a, b).map(|_| 0))
 }
 
 fn swap(table: &mut [u16], dimension: Dimension, a: u16, b: u16) {

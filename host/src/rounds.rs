@@ -31,6 +31,15 @@ pub fn of(dimension: Dimension, table: &[u16], tab: Tab) -> Vec<Tab> {
     }
 }
 
+/// How far a tab is from another round the tie or the cell that they share.
+pub fn distance(dimension: Dimension, table: &[u16], from: Tab, to: Tab) -> usize {
+    let answer = match dimension {
+        Dimension::Tie => binding::same_edge(table, from, to),
+        Dimension::Cell => binding::same_vertex(table, from, to),
+    };
+    answer.count as usize
+}
+
 /// The present tabs in rising order, each with the smallest tab of its piece.
 pub fn pieces(table: &[u16]) -> Vec<(Tab, Tab)> {
     let mut marks = vec![0; table.len() / 4];

@@ -95,7 +95,10 @@ fn expected(plan: &Plan, command: &Command, number: u8) -> Culprits {
         (5, Command::Put(t)) | (6, Command::TakeOut(t)) => {
             Culprits::Hanging { tie: tie(*t), cell: plan.part(Part::Cell, *t) }
         }
-        (7, Command::Join(d, a, b)) => Culprits::Together { dimension: *d, round: plan.part(part(*d), *a), other: *b },
+        (7, Command::Join(d, a, b)) => {
+            let distance = plan.distance(*d, *a, *b).expect("one tie or cell");
+            Culprits::Together { dimension: *d, round: plan.part(part(*d), *a), other: *b, distance }
+        }
         (8, Command::Cut(d, a, b)) => {
             Culprits::Apart { dimension: *d, first: plan.part(part(*d), *a), second: plan.part(part(*d), *b) }
         }

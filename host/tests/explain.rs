@@ -71,12 +71,12 @@ The tab to be taken out hangs with others: 4 lies in the tie 4 3 and in the cell
     (
         "tie join 1 2",
         "refused 7, together: command 9, tie join 1 2, at byte 32, line 9
-The two tabs to be joined are in one tie (cell) already: 1 and 2 lie in the tie 1 2.",
+The two tabs to be joined are in one tie (cell) already: 1 and 2 lie in the tie 1 2, 1 step from 1 to 2.",
     ),
     (
         "cell join 3 1",
         "refused 7, together: command 9, cell join 3 1, at byte 32, line 9
-The two tabs to be joined are in one tie (cell) already: 3 and 1 lie in the cell 3 1.",
+The two tabs to be joined are in one tie (cell) already: 3 and 1 lie in the cell 3 1, 1 step from 3 to 1.",
     ),
     (
         "tie join 2 2",
@@ -268,7 +268,7 @@ fn long_rounds_are_shortened() {
     let row = "1 2 3 4 5 6 7 8 9 10 11 12 … and 84 more";
     let expected = format!(
         "refused 7, together: command 192, tie join 1 50, at byte 763, line 192
-The two tabs to be joined are in one tie (cell) already: 1 and 50 lie in the tie {row}.
+The two tabs to be joined are in one tie (cell) already: 1 and 50 lie in the tie {row}, 49 steps from 1 to 50.
 191 commands before it were accepted.\n"
     );
     assert_eq!(explained(&format!("{puts}{joins}tie join 1 50")), expected);

@@ -12,7 +12,7 @@ fn measured(capacity: usize) -> Vec<Row> {
 #[test]
 fn kernel_and_plain_rust_agree() {
     let rows = measured(4096);
-    assert_eq!(rows.len(), 14);
+    assert_eq!(rows.len(), 16);
     assert!(rows.iter().all(|row| row.ours > 0.0 && row.theirs > 0.0));
 }
 

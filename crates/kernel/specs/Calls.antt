@@ -15,7 +15,7 @@ use Rattle.table.specs.Inner.{kindOf}
 use Rattle.table.specs.declared.Orbit.{Orbit}
 use Rattle.parts.specs.Marks.{componentMarks}
 use Rattle.parts.specs.Counts.{countsOf}
-use Rattle.parts.specs.Sharing.{isSame}
+use Rattle.parts.specs.Sharing.{isSame, stepsRound}
 use Rattle.parts.specs.declared.Counts.{Counts}
 use Rattle.parts.specs.declared.Part.{Part}
 use Rattle.soundness.specs.Soundness.{tableRefusal}
@@ -87,9 +87,10 @@ refusedAnswer n = record { number = n; yes = false; count = 0 }
 unfoldable pub answer : (refusal : ℕ) → (yes : Bool) → (count : ℕ) → Answer
 answer n t k = cond (eqb n 0) (record { number = 0; yes = t; count = k }) (refusedAnswer n)
 
--- the papers leave the count of this answer free: it is 0
+-- document 02, Job 6: the count is how far b is from a round the edge or vertex, and 0 where they are apart. The papers
+-- leave it free for a face and a component: it is 0
 unfoldable pub sameAnswer : Table → Part → (a b : ℕ) → Answer
-sameAnswer w p a b = answer (questionRefusal w (a ∷ b ∷ [])) (isSame w p a b) 0
+sameAnswer w p a b = answer (questionRefusal w (a ∷ b ∷ [])) (isSame w p a b) (stepsRound w p a b)
 
 -- LISTS into a lent buffer: 14 where it is shorter than the list, after the refusal n
 unfoldable pub listRefusal : (n : ℕ) → (list out : List ℕ) → ℕ

@@ -158,7 +158,8 @@ pub fn component_report(table: &[u16], x: u32) -> Totals
     answers::totals(count::component_counts(table, to_word(x)))
 }
 
-// Whether a and b lie in one edge, vertex, face or component.
+// Whether a and b lie in one edge, vertex, face or component. For an edge or a vertex the count is how far b is from a:
+// the fewest steps, each to the successor.
 pub fn same(table: &[u16], part: Part, a: u32, b: u32) -> Answer
     ensures { λ r. ⌜ r ≡ sameAnswer (now (table .entry)) part a b ⌝ }
 {
@@ -166,10 +167,11 @@ pub fn same(table: &[u16], part: Part, a: u32, b: u32) -> Answer
     if refusal != 0 {
         return answers::refused(refusal);
     }
+    let found = share::distance(table, part, to_word(a), to_word(b));
     Answer {
         number: 0,
-        yes: share::is_same(table, part, to_word(a), to_word(b)),
-        count: 0,
+        yes: found.reached,
+        count: found.steps as u32,
     }
 }
 

@@ -101,9 +101,20 @@ pub questionTable : (w : Table) (xs : List ℕ) → questionRefusal w xs ≡ 0 �
 unfolding questionRefusal
 questionTable w xs e = passed (tableRefusal w) (presenceRefusal w xs) e .0
 
+allFit :
+    (w : Table) (xs : List ℕ) → tableRefusal w ≡ 0 → all (isPresent w) xs ≡ true → questionRefusal w xs ≡ 0
+unfolding questionRefusal orElse
+allFit w xs e p = rw (e, presentFits w xs p)
+
 pub questionFits : (w : Table) (x : ℕ) → tableRefusal w ≡ 0 → isPresent w x ≡ true → questionRefusal w (x ∷ []) ≡ 0
-unfolding questionRefusal orElse all
-questionFits w x e p = rw (e, presentFits w (x ∷ []) (rw p))
+unfolding all
+questionFits w x e p = allFit w (x ∷ []) e (rw p)
+
+pub questionFitsBoth :
+    (w : Table) (a b : ℕ) → tableRefusal w ≡ 0 → isPresent w a ≡ true → isPresent w b ≡ true →
+    questionRefusal w (a ∷ b ∷ []) ≡ 0
+unfolding all
+questionFitsBoth w a b e p q = allFit w (a ∷ b ∷ []) e (rw (p, q))
 
 -- a report of the component of x
 pub componentPassed : (w : Table) (x : ℕ) → componentReportOf w x .number ≡ 0 → questionRefusal w (x ∷ []) ≡ 0

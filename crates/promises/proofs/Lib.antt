@@ -15,4 +15,5 @@ pub mod ComponentReports
 pub mod JournalRefusals
 pub mod WaysBack
 pub mod Journals
+pub mod Distances
 pub mod Promises

@@ -1,6 +1,6 @@
 -- Document 01's plans to check hold, every row of their table: the checker computes it. Assumes nothing.
 use mathlib.Core.Path.{refl}
-use Rattle.hypermap.specs.Lists.{all, among, keep, leastOf}
+use Rattle.hypermap.specs.Lists.{all, among, indexOf, keep, leastOf}
 use Rattle.hypermap.specs.Hypermap.{walkFrom, spread, spreadBy}
 use Rattle.hypermap.specs.Ring.{allLinks, noTwo, lastOf, continuity}
 use Rattle.table.specs.Refusals.{orElse, unless}
@@ -18,9 +18,9 @@ use Rattle.kernel.specs.Tapes.{emptyTable}
 use Rattle.promises.specs.Plans.{PlansPromise, sameNumbers, facesFit, rowFits, allFit, rows}
 
 pub plansPromise : PlansPromise
-unfolding all among keep leastOf walkFrom spread spreadBy allLinks noTwo lastOf continuity orElse unless upFrom wordAt
-    isPresent isAbsent wordsLinked dartFits holdsHypermap withWord withAll swapped presenceRefusal isTogether leaves
-    markOf marksOf countsOf linksOf isList pairsTogether pathCloses conditionRefusal ringRefusal cutAlong tapeBytes
-    orbitJoins joinsOver putsOf tapeOf sizeFits isSound tableRefusal callRefusal callLeaves ringCallRefusal
-    ringCallLeaves reportOn emptyTable sameNumbers facesFit rowFits allFit rows
+unfolding all among indexOf keep leastOf walkFrom spread spreadBy allLinks noTwo lastOf continuity orElse unless
+    upFrom wordAt isPresent isAbsent wordsLinked dartFits holdsHypermap withWord withAll swapped presenceRefusal
+    isTogether leaves markOf marksOf countsOf linksOf isList pairsTogether pathCloses conditionRefusal ringRefusal
+    cutAlong tapeBytes orbitJoins joinsOver putsOf tapeOf sizeFits isSound tableRefusal callRefusal callLeaves
+    ringCallRefusal ringCallLeaves reportOn emptyTable sameNumbers facesFit rowFits allFit rows
 plansPromise = refl

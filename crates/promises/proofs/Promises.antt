@@ -9,6 +9,7 @@ use Rattle.promises.proofs.Lifts.{liftsPromise}
 use Rattle.promises.proofs.Rounds.{roundPromise}
 use Rattle.promises.proofs.ComponentReports.{componentPromise}
 use Rattle.promises.proofs.Journals.{journalPromise}
+use Rattle.promises.proofs.Distances.{distancePromise}
 
 pub promises : Promises
 promises = record {
@@ -21,4 +22,5 @@ promises = record {
   rounds = roundPromise;
   componentReports = componentPromise;
   journals = journalPromise;
+  distances = distancePromise;
 }

@@ -11,6 +11,7 @@ use borrow.Author.Tests.{eq-eqb}
 use Rattle.hypermap.specs.Hypermap.{edge, vertex, of, face, isDart, isHypermap, componentOf, componentAt}
 use Rattle.hypermap.specs.Laws.{Connects}
 use Rattle.hypermap.proofs.Laws.Orbits.{orbitLaw}
+use Rattle.hypermap.proofs.Laws.Distances.{distanceLaw}
 use Rattle.hypermap.proofs.Laws.Components.{componentLaw}
 use Rattle.hypermap.proofs.Laws.Counts.{leastHas, leastLow}
 use Rattle.table.specs.Layout.{Table, capacity, isPresent, hypermapOf}
@@ -19,7 +20,7 @@ use Rattle.table.specs.declared.Orbit.{Orbit}
 use Rattle.table.proofs.Holding.{low, high, memPresent, tableHypermap}
 use Rattle.parts.specs.Counts.{countsOf}
 use Rattle.parts.specs.Marks.{markOf, marksOf, componentMarks}
-use Rattle.parts.specs.Sharing.{isSame}
+use Rattle.parts.specs.Sharing.{isSame, stepsRound}
 use Rattle.parts.specs.declared.Part.{Part}
 use Rattle.parts.specs.declared.Part.the-variants.{Edge, Vertex, Face, Component}
 use Rattle.parts.proofs.LeastMarks.{marksLength, mapUpFrom}
@@ -36,21 +37,27 @@ use Rattle.promises.proofs.Accepted.{answerNumber, listPassed, reportPa
 shares :
     (w : Table) (p : Part) (a b : ℕ) → isHypermap (hypermapOf w) ≡ true → isDart (hypermapOf w) a ≡ true →
     (isSame w p a b ≡ true) ↔ Shares (hypermapOf w) p a b
-shares w Edge a b wf d = orbitLaw (hypermapOf w) wf (of edge) .0 a d .members b
-shares w Vertex a b wf d = orbitLaw (hypermapOf w) wf (of vertex) .0 a d .members b
-shares w Face a b wf d = orbitLaw (hypermapOf w) wf face .0 a d .members b
+shares w Edge a b wf d = distanceLaw (hypermapOf w) wf (of edge) a b d .reached
+shares w Vertex a b wf d = distanceLaw (hypermapOf w) wf (of vertex) a b d .reached
+shares w Face a b wf d = distanceLaw (hypermapOf w) wf face a b d .reached
 shares w Component a b wf d = componentLaw (hypermapOf w) wf .0 a d .members b
 
-pub same :
-    (w : Table) (p : Part) (a b : ℕ) → sameAnswer w p a b .number ≡ 0 →
-    (sameAnswer w p a b .yes ≡ true) ↔ Shares (hypermapOf w) p a b
-unfolding sameAnswer
-same w p a b e =
-    let q = questionRefusal w (a ∷ b ∷ []) in
-    let z = sym (answerNumber q (isSame w p a b) 0) ∙ e in
-    let r = dartsReady w a b z .both in
-    rw (← givenAnswer q q (isSame w p a b) 0 refl z)
-    (shares w p a b (tableHypermap w (r .hypermap)) (memPresent w a ∙ r .first))
+module _ (w : Table) (p : Part) (a b : ℕ) where
+  pub sameGiven :
+      questionRefusal w (a ∷ b ∷ []) ≡ 0 →
+      sameAnswer w p a b ≡ record { number = 0; yes = isSame w p a b; count = stepsRound w p a b }
+  unfolding sameAnswer
+  sameGiven z = sym (givenAnswer 0 (questionRefusal w (a ∷ b ∷ [])) (isSame w p a b) (stepsRound w p a b) (sym z) refl)
+
+  pub samePassed : sameAnswer w p a b .number ≡ 0 → questionRefusal w (a ∷ b ∷ []) ≡ 0
+  unfolding sameAnswer
+  samePassed e = sym (answerNumber (questionRefusal w (a ∷ b ∷ [])) (isSame w p a b) (stepsRound w p a b)) ∙ e
+
+  pub same : sameAnswer w p a b .number ≡ 0 → (sameAnswer w p a b .yes ≡ true) ↔ Shares (hypermapOf w) p a b
+  same e =
+      let z = samePassed e in
+      let r = dartsReady w a b z .both in
+      rw (sameGiven z) (shares w p a b (tableHypermap w (r .hypermap)) (memPresent w a ∙ r .first))
 
 -- A ROUND
 pub round : (w : Table) (o : Orbit) (x : ℕ) (out : List ℕ) → roundAnswer w o x out .number ≡ 0 → IsRound w o x out

@@ -7,4 +7,5 @@ pub mod Lifts
 pub mod Rounds
 pub mod ComponentReports
 pub mod Journals
+pub mod Distances
 pub mod Promises

@@ -10,6 +10,7 @@ use Rattle.promises.specs.Lifts.{LiftsPromise}
 use Rattle.promises.specs.Rounds.{RoundPromise}
 use Rattle.promises.specs.ComponentReports.{ComponentPromise}
 use Rattle.promises.specs.Journals.{JournalPromise}
+use Rattle.promises.specs.Distances.{DistancePromise}
 
 pub record Promises : Type 0 where
   -- every call replies; a refused one leaves what it was lent as it was
@@ -30,3 +31,5 @@ pub record Promises : Type 0 where
   pub componentReports : ComponentPromise
   -- Job 5: named states to come back to
   pub journals : JournalPromise
+  -- Job 6: how far round an edge or a vertex
+  pub distances : DistancePromise

@@ -14,6 +14,7 @@ use Rattle.hypermap.proofs.Hypermaps.Totals.{backs}
 use Rattle.hypermap.proofs.Hypermaps.TotalCounts.{sameOrbitIs, falling, fallingPermutations, backsChanged}
 use Rattle.hypermap.proofs.Hypermaps.RingTests.{ringOf}
 use Rattle.hypermap.proofs.Hypermaps.Alike.{Agrees, agreesOn, breakAgrees, answersAgree}
+use Rattle.hypermap.proofs.Laws.Orbits.{equalOrbits}
 use Rattle.hypermap.proofs.Laws.Changes.{changeHypermap}
 use Rattle.hypermap.proofs.Laws.Counts.{memReverse}
 use Rattle.table.specs.Layout.{Table, isPresent, holdsHypermap, hypermapOf}
@@ -88,7 +89,7 @@ cutsPass (l ∷ ls) m w wf g s t =
     let f = cutFits w edge a b (record {
       first = pa;
       second = pb;
-      together = ap (among b) same ∙ v .oneEdge;
+      together = equalOrbits m (hypermapOf w) (of edge) a b same ∙ v .oneEdge;
       differ = v .differ;
     }) in
     ((f, r .0), r .1)

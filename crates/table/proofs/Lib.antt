@@ -5,7 +5,7 @@ pub mod Holding
 pub mod HalfTest
 pub mod Following
 pub mod Walking
-pub mod Seeking
+pub mod Meeting
 pub mod Writing
 pub mod Stages
 pub mod Filling

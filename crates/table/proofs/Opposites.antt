@@ -1,7 +1,7 @@
 -- The opposite of an accepted command is accepted and restores every word: the change of four words undoes itself, and
 -- put and take out write the words of one dart. Assumes nothing.
 use mathlib.Core.Path.{_≡_, refl, ap, sym, _∙_}
-use mathlib.Core.Bool.{true, false, not}
+use mathlib.Core.Bool.{true, not}
 use Prim.Native.Nat.{ℕ, suc, _*_, _/_, _%_, _≤_, _<_}
 use native.Mathlib.Omega.{arith}
 use lib.Dec.{eqb}
@@ -17,6 +17,7 @@ use Rattle.hypermap.proofs.Permutations.Splicing.{swapInTwice, swapInInside}
 use Rattle.hypermap.proofs.Hypermaps.Alike.{answersAgree}
 use Rattle.hypermap.proofs.Laws.Orbits.{orbitLaw}
 use Rattle.hypermap.proofs.Laws.Changes.{changeHypermap}
+use Rattle.hypermap.proofs.Laws.Orbits.{equalOrbits}
 use Rattle.hypermap.proofs.Laws.JoinsOrCuts.{joinOrCutLaw}
 use Rattle.table.specs.Limits.{wordsPerDart, hypermapWords}
 use Rattle.table.specs.Layout.{Table, capacity, place, wordAt, nextWord, backWord, isPresent, holdsHypermap}
@@ -86,7 +87,7 @@ module _ (w : Table) (s : holdsHypermap w ≡ true) (z : length w % wordsPerDart
         let n = change k a b m in
         let g = answersAgree n (hypermapOf v) (changeHypermap m k a b wf ha hb) (tableHypermap v (once .hypermap))
         (holdsAgrees v n (once .holds)) in
-        ap (among b) (g .sameOrbits (of k) a ha) ∙ joinOrCutLaw m wf k a b ha hb d
+        equalOrbits n (hypermapOf v) (of k) a b (g .sameOrbits (of k) a ha) ∙ joinOrCutLaw m wf k a b ha hb d
 
   -- PUT AND TAKE OUT: one dart's words are written twice
   oneDart :

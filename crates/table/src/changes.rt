@@ -55,7 +55,7 @@ fn are_together(table: &[u16], d: Dimension, a: u32, b: u32) -> bool
     requires { ⌜ WithinCapacityAtBoth (now table) a b ⌝ }
     ensures { λ r. ⌜ r ≡ isTogether (now (table .entry)) (dimensionOf d) a b ⌝ }
 {
-    walk::is_together(table, d, to_word(a), to_word(b))
+    walk::distance(table, walk::orbit_of(d), to_word(a), to_word(b)).reached
 }
 
 // THE REFUSAL of a change

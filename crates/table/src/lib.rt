@@ -22,6 +22,12 @@ pub enum Orbit {
     Face,
 }
 
+// How far one dart is from another round an orbit: the fewest steps, where they are in one orbit, and else 0.
+pub struct Distance {
+    pub reached: bool,
+    pub steps: u16,
+}
+
 // A change of a table: a variant for each command byte that changes one, so that the dimension is known in its arm.
 // Numbers come from outside, in 32 bits; whether they name darts is judged before they become words.
 pub enum Change {

@@ -4,11 +4,12 @@
 ghost use mathlib.Core.Path.{_≡_};
 ghost use mathlib.Core.List.{_++_};
 ghost use lib.ListN.{length, drop};
-ghost use Rattle.hypermap.specs.Hypermap.{step as stepOf, orbitOf, sameOrbit};
+ghost use Rattle.hypermap.specs.Hypermap.{of, step as stepOf, stepBack, orbitOf};
 ghost use Rattle.table.specs.Layout.{wordAt, nextWord, hypermapOf};
-ghost use Rattle.table.specs.Commands.{isTogether};
-ghost use Rattle.table.specs.Inner.{HypermapAt, HypermapAtBoth, RoomForOrbit, dimensionOf, kindOf};
+ghost use Rattle.table.specs.Inner.{HypermapAt, RoomForOrbit, WithinCapacityAtBoth, dimensionOf, kindOf};
+ghost use Rattle.table.specs.Inner.{distanceFound};
 use crate::Dimension;
+use crate::Distance;
 use crate::Orbit;
 use crate::limits::EDGE_BACK;
 use crate::limits::EDGE_NEXT;
@@ -25,6 +26,16 @@ pub fn next(table: &[u16], d: Dimension, x: u16) -> u16
     word(table, x, next_word(d))
 }
 
+// The orbits of a dimension.
+pub fn orbit_of(d: Dimension) -> Orbit
+    ensures { λ r. ⌜ kindOf r ≡ of (dimensionOf d) ⌝ }
+{
+    match d {
+        Dimension::Edge => Orbit::Edge,
+        Dimension::Vertex => Orbit::Vertex,
+    }
+}
+
 // The step of an orbit. Of a face: the edge predecessor, and then its vertex predecessor.
 pub fn step(table: &[u16], orbit: Orbit, x: u16) -> u16
     requires { ⌜ HypermapAt (now table) x ⌝ }
@@ -37,20 +48,15 @@ pub fn step(table: &[u16], orbit: Orbit, x: u16) -> u16
     }
 }
 
-// Whether b lies in the orbit of a: one walk from a, until it meets b or is home.
-pub fn in_orbit(table: &[u16], orbit: Orbit, a: u16, b: u16) -> bool
-    requires { ⌜ HypermapAtBoth (now table) a b ⌝ }
-    ensures { λ r. ⌜ r ≡ sameOrbit (hypermapOf (now (table .entry))) (kindOf orbit) a b ⌝ }
+// The step back, against the orbit.
+pub fn step_back(table: &[u16], orbit: Orbit, x: u16) -> u16
+    requires { ⌜ HypermapAt (now table) x ⌝ }
+    ensures { λ r. ⌜ r ≡ stepBack (hypermapOf (now (table .entry))) (kindOf orbit) x ⌝ }
 {
-    let mut at = a;
-    loop {
-        if at == b {
-            return true;
-        }
-        at = step(table, orbit, at);
-        if at == a {
-            return false;
-        }
+    match orbit {
+        Orbit::Edge => word(table, x, EDGE_BACK),
+        Orbit::Vertex => word(table, x, VERTEX_BACK),
+        Orbit::Face => word(table, word(table, x, VERTEX_NEXT), EDGE_NEXT),
     }
 }
 
@@ -89,28 +95,44 @@ pub fn write_orbit(table: &[u16], orbit: Orbit, x: u16, out: &mut [u16])
     }
 }
 
-// Whether a and b lie in one edge or vertex. Walks from both in lockstep, so the cost is that of the shorter orbit. The
-// walk from b goes first: on a canonical tape the second dart of a join is alone.
-pub fn is_together(table: &[u16], d: Dimension, a: u16, b: u16) -> bool
-    requires { ⌜ HypermapAtBoth (now table) a b ⌝ }
-    ensures { λ r. ⌜ r ≡ isTogether (now (table .entry)) (dimensionOf d) a b ⌝ }
+// How far b is from a round an orbit. It walks forward from a and back from b, a step each in turn. After so many steps
+// in all the walks meet exactly where as many steps lead from a to b, so their first meeting is the distance. If one of
+// them comes home before, b is not in the orbit of a: the cost is that of the shorter orbit. The step back goes first,
+// since on a canonical tape the second dart of a join is alone. The count stays below twice the capacity.
+pub fn distance(table: &[u16], orbit: Orbit, a: u16, b: u16) -> Distance
+    requires { ⌜ WithinCapacityAtBoth (now table) a b ⌝ }
+    ensures { λ r. ⌜ r ≡ distanceFound (now (table .entry)) (kindOf orbit) a b ⌝ }
 {
     let mut x = a;
     let mut y = b;
+    let mut walked: u16 = 0;
     loop {
-        if y == a {
-            return true;
+        if x == y {
+            return Distance {
+                reached: true,
+                steps: walked,
+            };
         }
-        y = next(table, d, y);
+        y = step_back(table, orbit, y);
         if y == b {
-            return false;
+            return Distance {
+                reached: false,
+                steps: 0,
+            };
         }
-        if x == b {
-            return true;
+        if x == y {
+            return Distance {
+                reached: true,
+                steps: walked + 1,
+            };
         }
-        x = next(table, d, x);
+        x = step(table, orbit, x);
         if x == a {
-            return false;
+            return Distance {
+                reached: false,
+                steps: 0,
+            };
         }
+        walked += 2;
     }
 }

@@ -13,6 +13,7 @@ use Rattle.hypermap.proofs.Basics.Lists.{Mem, memHead, memTail, notAmong, disti
 use Rattle.hypermap.proofs.Permutations.Reaching.{ride}
 use Rattle.hypermap.proofs.Permutations.Splicing.{swapFirst, swapSecond, swapElse, swapCases}
 use Rattle.hypermap.proofs.Laws.Orbits.{orbitLaw}
+use Rattle.hypermap.proofs.Laws.Distances.{distanceLaw}
 use Rattle.hypermap.proofs.Laws.Changes.{changeLaw}
 use Rattle.table.specs.Layout.{Table, wordAt, nextWord, isPresent, hypermapOf, holdsHypermap}
 use Rattle.table.specs.Commands.{joins, swapped, isTogether, commandRefusal}
@@ -33,10 +34,11 @@ module _
   notTogether : isTogether u k a t ≡ false
   unfolding isTogether
   notTogether =
-      let o = orbitLaw (hypermapOf u) (tableHypermap u s) (of k) in
+      let h = tableHypermap u s in
       let f : ℕ → ℕ = λ x. wordAt u x (nextWord k) in
-      refuted _ (λ m. let r = o .1 .symmetric a t (memPresent u a ∙ pa) m in
-      d (ride f (λ z. z ≡ t) (λ z e. ap f e ∙ alone) t a (o .0 t (memPresent u t ∙ pt) .members a .0 r) refl))
+      refuted _ (λ m. let r = orbitLaw (hypermapOf u) h (of k) .1 .symmetric a t (memPresent u a ∙ pa) m in
+      let i = distanceLaw (hypermapOf u) h (of k) t a (memPresent u t ∙ pt) .reached .0 r in
+      d (ride f (λ z. z ≡ t) (λ z e. ap f e ∙ alone) t a i refl))
 
   joinAccepted : commandRefusal u (joins k a t) ≡ 0
   joinAccepted = joinFits u k a t (record { first = pa; second = pt; apart = notTogether })

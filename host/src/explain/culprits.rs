@@ -45,8 +45,8 @@ pub enum Culprits {
     Absent(Vec<Tab>),
     /// 5 and 6: the tie and the cell of the tab.
     Hanging { tie: Vec<Tab>, cell: Vec<Tab> },
-    /// 7: the tie or cell of the first tab, and the second tab.
-    Together { dimension: Dimension, round: Vec<Tab>, other: Tab },
+    /// 7: the tie or cell of the first tab, the second tab, and the fewest steps to the follower from one to the other.
+    Together { dimension: Dimension, round: Vec<Tab>, other: Tab, distance: usize },
     /// 8 of a cut
     Apart { dimension: Dimension, first: Vec<Tab>, second: Vec<Tab> },
     /// 8 of a ring: each such crossing with the ties of its tabs.
@@ -144,7 +144,8 @@ pub fn of_command(table: &[u16], command: &Command, number: u8) -> Culprits {
             Culprits::Hanging { tie: rounds::tie(table, t), cell: rounds::cell(table, t) }
         }
         (7, &Command::Join(dimension, a, b)) => {
-            Culprits::Together { dimension, round: rounds::of(dimension, table, a), other: b }
+            let distance = rounds::distance(dimension, table, a, b);
+            Culprits::Together { dimension, round: rounds::of(dimension, table, a), other: b, distance }
         }
         (8, &Command::Cut(dimension, a, b)) => {
             let (first, second) = (rounds::of(dimension, table, a), rounds::of(dimension, table, b));

@@ -24,12 +24,12 @@ fn dimension_name(dimension: Dimension) -> &'static str {
     }
 }
 
-fn together(dimension: Dimension, round: &[Tab], other: Tab) -> String {
+fn together(dimension: Dimension, round: &[Tab], other: Tab, distance: usize) -> String {
     let part = dimension_name(dimension);
-    if round.first() == Some(&other) {
-        format!("both are {other}, in the {part} {}", row(round))
-    } else {
-        format!("{} and {other} lie in the {part} {}", start(round), row(round))
+    let (first, steps) = (start(round), counted(distance, "step"));
+    match distance {
+        0 => format!("both are {other}, in the {part} {}", row(round)),
+        _ => format!("{first} and {other} lie in the {part} {}, {steps} from {first} to {other}", row(round)),
     }
 }
 
@@ -89,7 +89,9 @@ pub fn sentences(culprits: &Culprits) -> Vec<String> {
         Culprits::Hanging { tie, cell } => {
             vec![format!("{} lies in the tie {} and in the cell {}", start(tie), row(tie), row(cell))]
         }
-        Culprits::Together { dimension, round, other } => vec![together(*dimension, round, *other)],
+        Culprits::Together { dimension, round, other, distance } => {
+            vec![together(*dimension, round, *other, *distance)]
+        }
         Culprits::Apart { dimension, first, second } => vec![apart(*dimension, first, second)],
         Culprits::CrossingsApart(crossings) => crossings.iter().map(crossing_apart).collect(),
         Culprits::SameTab(tab) => vec![format!("both are {tab}")],

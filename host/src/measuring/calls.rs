@@ -32,6 +32,15 @@ pub fn component_report<S: Side>(tabs: &TwoTabs, _: &mut Room) -> Timed<Words, T
     timed(tabs.table, |table| S::component_report(table, tabs.middle))
 }
 
+/// Two tabs of one tie. Only the yes is compared with the other side's: libraries from before the distance count 0.
+pub fn same_edge<S: Side>(tabs: &TwoTabs, _: &mut Room) -> Timed<Words, bool> {
+    timed(tabs.table, |table| S::same_edge(table, tabs.first, tabs.middle).yes)
+}
+
+pub fn same_face<S: Side>(tabs: &TwoTabs, _: &mut Room) -> Timed<Words, bool> {
+    timed(tabs.table, |table| S::same_face(table, tabs.first, tabs.middle).yes)
+}
+
 pub fn face_round<S: Side>(table: &Words, room: &mut Room) -> Timed<Words, Answer> {
     timed(table, |table| S::face_round(table, 1, &mut room.words))
 }

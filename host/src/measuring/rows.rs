@@ -75,6 +75,8 @@ pub fn rows<Ours: Side, Theirs: Side>(plans: &Plans, rounds: usize) -> Vec<Row> 
     row!(pass, "piece report, of all tabs", &two_tabs(&plans.scattered), calls::component_report);
     row!(pass, "piece report, of 64 tabs", &two_tabs(&plans.pieces), calls::component_report);
     row!(pass, "round of all tabs", &plans.one_gap, calls::face_round);
+    row!(pass, "same tie, of all tabs", &two_tabs(&plans.one_gap), calls::same_edge);
+    row!(pass, "same gap, of all tabs", &two_tabs(&plans.one_gap), calls::same_face);
     row!(pass, "play, a canonical tape", &tapes_and_tables, calls::play);
     row!(pass, "needs of a tape", &plans.tapes, calls::tape_needs);
     row!(pass, "write a tape", &plans.scattered, calls::write_tape);

@@ -58,6 +58,8 @@ sides! {
     fn ring_cut(table: &mut [u16], ring: &[u16]) -> u8;
     fn report(table: &[u16]) -> Totals;
     fn component_report(table: &[u16], dart: u32) -> Totals;
+    fn same_edge(table: &[u16], a: u32, b: u32) -> Answer;
+    fn same_face(table: &[u16], a: u32, b: u32) -> Answer;
     fn face_round(table: &[u16], dart: u32, out: &mut [u16]) -> Answer;
     fn play(table: &mut [u16], tape: &[u8]) -> Run;
     fn tape_needs(tape: &[u8]) -> Needs;
@@ -98,6 +100,16 @@ mod plain_calls {
     #[inline]
     pub fn component_report(table: &[u16], dart: u32) -> Totals {
         plain::piece_report(table, narrow(dart))
+    }
+
+    #[inline]
+    pub fn same_edge(table: &[u16], a: u32, b: u32) -> Answer {
+        plain::same_tie(table, narrow(a), narrow(b))
+    }
+
+    #[inline]
+    pub fn same_face(table: &[u16], a: u32, b: u32) -> Answer {
+        plain::same_gap(table, narrow(a), narrow(b))
     }
 
     #[inline]

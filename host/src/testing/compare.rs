@@ -20,6 +20,9 @@ pub struct Met {
     pub rings: u64,
     pub longest_ring: usize,
     pub longest_round: usize,
+    /// Questions about two tabs that share no part.
+    pub apart: u64,
+    pub longest_distance: usize,
     pub with_handles: u64,
     pub partly_lifted: u64,
     pub rings_beside_handles: u64,
@@ -27,6 +30,15 @@ pub struct Met {
     pub foretold: u64,
     /// What calls on journals met.
     pub journal: journal::Places,
+}
+
+/// How far the second tab is from the first in a part that they share; 0 in a gap or a piece.
+fn shared(plan: &Plan, part: Part, a: Tab, b: Tab) -> Option<usize> {
+    match part {
+        Part::Tie => plan.distance(Dimension::Tie, a, b),
+        Part::Cell => plan.distance(Dimension::Cell, a, b),
+        Part::Gap | Part::Piece => plan.part(part, a).contains(&b).then_some(0),
+    }
 }
 
 impl Met {
@@ -198,9 +210,12 @@ impl Lent {
             Part::Piece => binding::same_component(words, a, b),
         });
         let number = self.question_refusal(&[a, b]);
-        let yes = number == 0 && self.plan().part(part, a).contains(&b);
-        assert_eq!(answer, Answer { number, yes, count: 0 }, "same {part:?} of {a} and {b}");
+        let found = if number == 0 { shared(&self.plan(), part, a, b) } else { None };
+        let expected = Answer { number, yes: found.is_some(), count: found.unwrap_or(0) as u32 };
+        assert_eq!(answer, expected, "same {part:?} of {a} and {b}");
         met.note(number);
+        met.apart += u64::from(number == 0 && found.is_none());
+        met.longest_distance = met.longest_distance.max(found.unwrap_or(0));
     }
 
     /// A question that writes a list into a buffer.

@@ -133,6 +133,13 @@ impl Plan {
 
     // PARTS
 
+    /// The fewest steps to the follower from one tab to another.
+    pub fn distance(&self, dimension: Dimension, from: Tab, to: Tab) -> Option<usize> {
+        let followers = self.map(dimension);
+        let steps = std::iter::successors(Some(from), |tab| Some(followers[tab]));
+        steps.take(followers.len()).position(|tab| tab == to)
+    }
+
     /// A tie, cell or gap in walking order, or a piece in rising order.
     pub fn part(&self, part: Part, tab: Tab) -> Vec<Tab> {
         match part {
@@ -269,7 +276,7 @@ impl Plan {
 
     /// The command's refusal, or 0.
     pub fn refusal(&self, command: &Command) -> u8 {
-        let together = |dimension, a, b| follow(a, |t| self.map(dimension)[&t]).contains(&b);
+        let together = |dimension, a, b| self.distance(dimension, a, b).is_some();
         match *command {
             Command::Put(t) if !self.is_number(t) => 3,
             Command::Put(t) if self.is_present(t) => 5,

@@ -24,8 +24,8 @@ to-word-requires-2 c κs =
     let r = dartsReady _ _ _ (sym (t .before .darts-question-refusal .ensures) ∙ t .if1 .left) in
     numberSmall _ _ (r .room) (r .both .second)
 
-is-same-requires : tie.Need-is-same-requires
-is-same-requires c κs =
+distance-requires : tie.Need-distance-requires
+distance-requires c κs =
     let t = c .before .before in
     rw (c .before .to-word .ensures, c .to-word2 .ensures)
     (dartsReady _ _ _ (sym (t .before .darts-question-refusal .ensures) ∙ t .if1 .left))
@@ -33,10 +33,11 @@ is-same-requires c κs =
 returns-2 : tie.Need-returns-2
 unfolding sameAnswer
 returns-2 c =
-    let b = c .before in
+    let d = c .before in
+    let b = d .before in
     let a = b .before in
     let t = a .before in
-    rw (c .is-same .ensures, a .to-word .ensures, b .to-word2 .ensures)
+    rw (d .distance .ensures, a .to-word .ensures, b .to-word2 .ensures)
     (givenAnswer _ _ _ _ (t .before .darts-question-refusal .ensures) (t .if1 .left))
 
 pub same-spec : {M : Type 1} → statement M
@@ -48,5 +49,6 @@ same-spec =
     returns
     to-word-requires
     to-word-requires-2
-    is-same-requires
+    distance-requires
+    (λ c. search needs)
     returns-2)

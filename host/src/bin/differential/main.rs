@@ -170,6 +170,18 @@ fn ring_beside(random: &mut Random, met: &mut Met) {
     met.rings_beside_handles += u64::from(before.iter().any(|t| t.genus > 0));
 }
 
+/// How far tabs are apart in a plan of long orbits: neighbours both ways, ends, and any two.
+fn distances(random: &mut Random, met: &mut Met, lent: &Lent, capacity: usize) {
+    let last = capacity as Tab;
+    let any = |random: &mut Random| 1 + random.below(capacity) as Tab;
+    let (a, b) = (any(random), any(random));
+    for part in PARTS {
+        for (from, to) in [(1, 2), (2, 1), (1, last), (last, 1), (a, a), (a, b), (b, a)] {
+            lent.same(met, part, from, to);
+        }
+    }
+}
+
 /// What is as large as it may be, and one more.
 fn full(random: &mut Random, met: &mut Met) {
     let capacity = MAX_CAPACITY;
@@ -184,6 +196,7 @@ fn full(random: &mut Random, met: &mut Met) {
     lent.write_tape(met, 53_238);
     lent.marks(met, capacity);
     lent.component_report(met, 1 + random.below(capacity) as Tab);
+    distances(random, met, &lent, capacity);
     for part in &PARTS[..3] {
         let tab = 1 + random.below(capacity) as Tab;
         round(random, met, &lent, *part, tab);
@@ -222,9 +235,10 @@ fn report_journals(met: &Met, greatest_length_tested: bool) {
 
 /// Whether everything was met that should be.
 fn all_met(met: &Met) -> bool {
-    let plans = [met.rings, met.with_handles, met.partly_lifted, met.rings_beside_handles, met.foretold];
+    let plans = [met.rings, met.apart, met.with_handles, met.partly_lifted, met.rings_beside_handles, met.foretold];
     let mut counts = met.refusals.iter().chain(&plans).copied().chain(met.journal.each().map(|(_, times)| times));
-    counts.all(|times| times > 0) && met.longest_round == MAX_CAPACITY && met.journal.returns > 0
+    let longest = (met.longest_round, met.longest_distance) == (MAX_CAPACITY, MAX_CAPACITY - 1);
+    counts.all(|times| times > 0) && longest && met.journal.returns > 0
 }
 
 fn main() {
@@ -260,6 +274,7 @@ fn main() {
         "{} rings cut, the longest of {} crossings; the longest round of {} tabs; {} runs as foretold",
         met.rings, met.longest_ring, met.longest_round, met.foretold
     );
+    println!("{} questions about tabs apart; the longest distance is {} steps", met.apart, met.longest_distance);
     println!("{} reports of plans with handles, {} of plans lifted in part", met.with_handles, met.partly_lifted);
     println!("{} rings in a flat piece beside one with handles", met.rings_beside_handles);
     report_journals(&met, greatest_length_tested);
