@@ -16,7 +16,8 @@ pub struct Totals {
     pub lifts: u32,
 }
 
-/// What a question answers: a refusal and nothing else, or 0 and what was asked.
+/// What a question answers: a refusal and nothing else, or 0 and what was asked. Of `same_edge` and `same_vertex` the
+/// count is the fewest steps from the first dart to the second, each to the successor; 0 where they are apart.
 #[repr(C)]
 #[derive(Clone, Copy, PartialEq, Eq, Debug, Default)]
 pub struct Answer {

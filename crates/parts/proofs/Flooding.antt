@@ -13,7 +13,7 @@ use borrow.Author.Tests.{eqb-true, eqb-false, eq-eqb, ne-eqb, ltb-true, ltb-fals
 use Rattle.hypermap.specs.Lists.{keep}
 use Rattle.hypermap.specs.Hypermap.{edge, isHypermap, face, step, componentOf, sameComponent}
 use Rattle.hypermap.specs.Hypermap.{orbitOf, isLeastIn, faces, restrict, componentAt}
-use Rattle.hypermap.specs.Laws.{Equivalence, Closed}
+use Rattle.hypermap.specs.Laws.{Equivalence, inOrbit, Closed}
 use Rattle.hypermap.proofs.Basics.Bools.{byCases, clash, boolExt, refuted, andLeft, andRight, andTrue}
 use Rattle.hypermap.proofs.Basics.Lists.{Mem, keepShorter}
 use Rattle.hypermap.proofs.Basics.Sums.{keptNone}
@@ -27,7 +27,7 @@ use Rattle.table.specs.Layout.{Table, capacity, isPresent, holdsHypermap, hyper
 use Rattle.table.specs.Inner.{HypermapAt}
 use Rattle.table.proofs.Holding.{low, high, memPresent, tableHypermap, dartsFew}
 use Rattle.parts.specs.Inner.{markAt, HasMark, PartMarked, isMarked}
-use Rattle.parts.specs.Floods.{Front, front, HasPlaces, inFace, Entering, HasBack, Entered, Unmarked}
+use Rattle.parts.specs.Floods.{Front, front, HasPlaces, Entering, HasBack, Entered, Unmarked}
 use Rattle.parts.proofs.FaceByFace.{allSuccessors, oneMore}
 use Rattle.parts.proofs.Walking.{orbitParts}
 use Rattle.parts.proofs.Entering.{unmarkedFew}
@@ -105,19 +105,19 @@ module _ (w : Table) (x v : ℕ) (k : HypermapAt w x) (one : 1 ≤ v) where
   closed : Closed (hypermapOf w) (sameComponent (hypermapOf w) x)
   closed = componentClosed (hypermapOf w) wf x start
 
-  sameAround : (y z : ℕ) → Same y → inFace w y z ≡ true → Same z
+  sameAround : (y z : ℕ) → Same y → inOrbit (hypermapOf w) face y z ≡ true → Same z
   sameAround y z s i = closedOrbit (hypermapOf w) wf (sameComponent (hypermapOf w) x) closed face y z (sameMem y s) s i
 
-  around : (y : ℕ) → Same y → inFace w y (step (hypermapOf w) face y) ≡ true
+  around : (y : ℕ) → Same y → inOrbit (hypermapOf w) face y (step (hypermapOf w) face y) ≡ true
   around y s = orbitLaw (hypermapOf w) wf face .0 y (sameMem y s) .members _ .1 (1, refl)
 
   -- A FACE is entered at y, which has no mark: so no dart of the face has one
   module _
       (f : Front) (head : ℕ) (h : Flooding w x v f head) (y : ℕ) (s : Same y) (zero : markAt (f .marks) y ≡ 0) where
-    unmarked : (z : ℕ) → inFace w y z ≡ true → markAt (f .marks) z ≡ 0
+    unmarked : (z : ℕ) → inOrbit (hypermapOf w) face y z ≡ true → markAt (f .marks) z ≡ 0
     unmarked z i = ⊎-elim (λ e. e) (λ e. absurd (omega (arith, one, met e, zero))) (h .inside z (sameAround y z s i))
       where
-        back : inFace w z y ≡ true
+        back : inOrbit (hypermapOf w) face z y ≡ true
         back = orbitParts w (k .hypermap) face .symmetric y z (sameMem y s) i
 
         met : markAt (f .marks) z ≡ v → markAt (f .marks) y ≡ v
@@ -137,12 +137,12 @@ module _ (w : Table) (x v : ℕ) (k : HypermapAt w x) (one : 1 ≤ v) where
 
     module _ (g : Front) (e : Entered w y v f g) (sizes : length (g .marks) ≡ length (f .marks)) where
       off :
-          (z : ℕ) → 1 ≤ z → inFace w y z ≡ false → markAt (g .marks) z ≡ markAt (f .marks) z
+          (z : ℕ) → 1 ≤ z → inOrbit (hypermapOf w) face y z ≡ false → markAt (g .marks) z ≡ markAt (f .marks) z
       off = e .partMarked .outside
 
       keeps : (z : ℕ) → 1 ≤ z → markAt (f .marks) z ≡ v → markAt (g .marks) z ≡ v
       keeps z l q =
-          byCases (inFace w y z) (λ t. e .partMarked .inside z t) (λ t. off z l t ∙ q)
+          byCases (inOrbit (hypermapOf w) face y z) (λ t. e .partMarked .inside z t) (λ t. off z l t ∙ q)
 
       marked : markAt (g .marks) y ≡ v
       marked = e .partMarked .inside y (orbitParts w (k .hypermap) face .reflexive y (sameMem y s))
@@ -152,10 +152,10 @@ module _ (w : Table) (x v : ℕ) (k : HypermapAt w x) (one : 1 ≤ v) where
         size = omega (arith, h .size, sizes);
         places = e .places;
         order = omega (arith, h .order, e .order);
-        inside = λ z o. byCases (inFace w y z)
+        inside = λ z o. byCases (inOrbit (hypermapOf w) face y z)
             (λ t. inr (e .partMarked .inside z t))
             (λ t. rw (off z (sameLow z o) t) (h .inside z o));
-        whole = λ z o q. byCases (inFace w y z)
+        whole = λ z o q. byCases (inOrbit (hypermapOf w) face y z)
             (λ t. e .partMarked .inside _
             (orbitParts w (k .hypermap) face .transitive y z _ (sameMem y s) t (around z o)))
             (λ t. keeps _ (sameLow _ (sameAround z _ o (around z o)))
@@ -168,7 +168,7 @@ module _ (w : Table) (x v : ℕ) (k : HypermapAt w x) (one : 1 ≤ v) where
         past = λ i l.
             let b : i < f .tail = omega (arith, h .order) in
             rw (e .before i b) (keeps _ (sameLow _ (h .queued i b)) (h .past i l));
-        waiting = λ z o q. byCases (inFace w y z)
+        waiting = λ z o q. byCases (inOrbit (hypermapOf w) face y z)
             (λ t. e .queued z t)
             (λ t. let r = h .waiting z o (sym (off z (sameLow z o) t) ∙ q) in
             (r .0, (omega (arith, r .1 .0, e .order), e .before (r .0) (r .1 .0) ∙ r .1 .1)));
@@ -176,13 +176,13 @@ module _ (w : Table) (x v : ℕ) (k : HypermapAt w x) (one : 1 ≤ v) where
 
       outsideToo :
           (z : ℕ) → 1 ≤ z → sameComponent (hypermapOf w) x z ≡ false → markAt (g .marks) z ≡ markAt (f .marks) z
-      outsideToo z l n = off z l (refuted (inFace w y z) (λ t. clash (sameAround y z s t) n))
+      outsideToo z l n = off z l (refuted (inOrbit (hypermapOf w) face y z) (λ t. clash (sameAround y z s t) n))
 
       faceMore : facesEntered w x v (g .marks) ≡ facesEntered w x v (f .marks) + 1
       faceMore =
           oneMore (hypermapOf w) wf face y (sameMem y s) (isEntered w x v (g .marks)) (isEntered w x v (f .marks))
           (λ z t. andTrue _ _ (sameAround y z s t) (eq-eqb _ v (e .partMarked .inside z t)))
-          (λ z d. byCases (inFace w y z)
+          (λ z d. byCases (inOrbit (hypermapOf w) face y z)
           (λ t. let n : isMarked (f .marks) v z ≡ false = ne-eqb _ v (λ q. omega (arith, one, unmarked z t)) in
           rw (t, n, eq-eqb _ v (e .partMarked .inside z t), sameAround y z s t))
           (λ t. rw (t, off z (low w z (rw memPresent at d)) t) (boolExt _ _ (λ u. andTrue _ _ u refl) (andLeft _ _))))

@@ -134,8 +134,8 @@ module _ (w : Table) where
   isSome l = ltb 0 (asked w edge (l .first) (l .second) .count)
 
   linksSome :
-      tableRefusal w ≡ 0 → (ls : List DoubleLink) → allLinks (isDoubleLink (hypermapOf w)) ls ≡ true → pairsDiffer ls ≡ true →
-      allLinks isSome ls ≡ true
+      tableRefusal w ≡ 0 → (ls : List DoubleLink) → allLinks (isDoubleLink (hypermapOf w)) ls ≡ true →
+      pairsDiffer ls ≡ true → allLinks isSome ls ≡ true
   unfolding allLinks
   linksSome t [] d p = refl
   linksSome t (l ∷ ls) d p =

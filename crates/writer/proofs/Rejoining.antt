@@ -5,15 +5,15 @@ use mathlib.Core.Bool.{Bool, true, false}
 use mathlib.Core.List.{List, [], _∷_, map, map-append}
 use Prim.Native.Nat.{ℕ}
 use lib.ListN.{length, drop}
-use Rattle.hypermap.specs.Lists.{among, distinct}
+use Rattle.hypermap.specs.Lists.{distinct}
 use Rattle.hypermap.specs.Hypermap.{Dimension, of, orbitOf, isLeastIn, leastDarts}
-use Rattle.hypermap.specs.Laws.{IsOrbit, Equivalence}
+use Rattle.hypermap.specs.Laws.{IsOrbit, Equivalence, inOrbit}
 use Rattle.hypermap.proofs.Basics.Bools.{clash, refuted}
 use Rattle.hypermap.proofs.Basics.Lists.{Mem, memHead, memTail, memNil, memCases, notAmong, keepMem, memKept}
 use Rattle.hypermap.proofs.Basics.Lists.{distinctHead, distinctTail, risingKeep, risingDistinct}
 use Rattle.hypermap.proofs.Permutations.Reaching.{onward}
 use Rattle.hypermap.proofs.Hypermaps.Totals.{up, fit}
-use Rattle.hypermap.proofs.Laws.Orbits.{orbitLaw, listedEquivalence}
+use Rattle.hypermap.proofs.Laws.Orbits.{orbitLaw, inOrbitEquivalence}
 use Rattle.hypermap.proofs.Laws.Counts.{countLaw}
 use Rattle.table.specs.Layout.{Table, capacity, wordAt, nextWord, isPresent, hypermapOf, holdsHypermap}
 use Rattle.table.specs.Runs.{afterAll, AllAccepted}
@@ -38,10 +38,10 @@ Rejoined w v u k = Turned w v u k (λ x. wordAt w x (nextWord k))
 -- THE ORBITS of w in dimension k
 module _ (w : Table) (k : Dimension) where
   abbrev Together : ℕ → ℕ → Type 0
-  Together x z = Mem z (orbitOf (hypermapOf w) (of k) x)
+  Together x z = inOrbit (hypermapOf w) (of k) x z ≡ true
 
   abbrev Apart : ℕ → ℕ → Type 0
-  Apart x z = among z (orbitOf (hypermapOf w) (of k) x) ≡ false
+  Apart x z = inOrbit (hypermapOf w) (of k) x z ≡ false
 
   abbrev isLeast : ℕ → Bool
   isLeast = isLeastIn (orbitOf (hypermapOf w) (of k))
@@ -57,8 +57,8 @@ module _ (w : Table) (k : Dimension) where
   turnedElse x z n = let q = notAmong z x _ n in turnElse x _ z (q .0) (q .1)
 
   module _ (s : holdsHypermap w ≡ true) where
-    alike : Equivalence (hypermapOf w .darts) (λ x y. among y (orbitOf (hypermapOf w) (of k) x))
-    alike = listedEquivalence (hypermapOf w) (tableHypermap w s) (of k)
+    alike : Equivalence (hypermapOf w .darts) (inOrbit (hypermapOf w) (of k))
+    alike = inOrbitEquivalence (hypermapOf w) (tableHypermap w s) (of k)
 
     leastDart : (x : ℕ) → Mem x least → Mem x (hypermapOf w .darts)
     leastDart x l = memKept isLeast (hypermapOf w .darts) x l .0

@@ -1,22 +1,23 @@
 -- The bytes of a canonical tape. An orbit has one dart more than it has joins, and the orbits of a dimension part the
 -- darts, so its joins and its orbits are together as many as the darts. Assumes nothing.
 use mathlib.Core.Path.{_≡_, refl, ap, sym, _∙_}
-use mathlib.Core.Bool.{Bool, true}
+use mathlib.Core.Bool.{true}
 use mathlib.Core.List.{List, [], _∷_, _++_, map, append-assoc}
 use Prim.Native.Nat.{ℕ, _+_, _*_, _≤_}
 use native.Mathlib.Omega.{arith}
 use lib.Dec.{leb}
 use lib.ListN.{length, drop, length-append}
 use borrow.Author.Tests.{leb-true, leb-false}
-use Rattle.hypermap.specs.Lists.{among, keep, sumOf}
+use Rattle.hypermap.specs.Lists.{keep, sumOf}
 use Rattle.hypermap.specs.Hypermap.{Dimension, edge, vertex, Hypermap, isHypermap, Kind, of, orbitOf}
 use Rattle.hypermap.specs.Hypermap.{isLeastIn, leastDarts, orbits, edges, vertices}
+use Rattle.hypermap.specs.Laws.{inOrbit}
 use Rattle.hypermap.proofs.Basics.Bools.{byCases}
 use Rattle.hypermap.proofs.Basics.Lists.{Mem, memHead, keepMem, memKept, keepAll, keepShorter, risingKeep}
 use Rattle.hypermap.proofs.Basics.Lists.{risingDistinct, pigeonhole}
 use Rattle.hypermap.proofs.Basics.Sums.{sumExt, keptOne, sumOfParts}
 use Rattle.hypermap.proofs.Hypermaps.Totals.{up}
-use Rattle.hypermap.proofs.Laws.Orbits.{orbitLaw, listedEquivalence}
+use Rattle.hypermap.proofs.Laws.Orbits.{orbitLaw, inOrbitEquivalence}
 use Rattle.hypermap.proofs.Laws.Counts.{countLaw}
 use Rattle.table.specs.Limits.{maxCapacity, longestCanonical}
 use Rattle.table.specs.Layout.{Table, capacity, holdsHypermap, hypermapOf}
@@ -28,42 +29,39 @@ use Rattle.writer.specs.Laws.{SizeLaw}
 
 -- THE ORBITS of one kind part the darts
 module _ (m : Hypermap) (wf : isHypermap m ≡ true) (c : Kind) where
-  abbrev listed : (x y : ℕ) → Bool
-  listed x y = among y (orbitOf m c x)
-
   abbrev leasts : List ℕ
   leasts = leastDarts m (orbitOf m c)
 
-  oneLeast : (y : ℕ) → Mem y (m .darts) → length (keep (λ r. listed r y) leasts) ≡ 1
+  oneLeast : (y : ℕ) → Mem y (m .darts) → length (keep (λ r. inOrbit m c r y) leasts) ≡ 1
   oneLeast y d =
       let l = countLaw m wf y d .0 c in
-      let q = listedEquivalence m wf c in
+      let q = inOrbitEquivalence m wf c in
       let low = isLeastIn (orbitOf m c) in
-      keptOne (λ r. listed r y) leasts (l .least)
+      keptOne (λ r. inOrbit m c r y) leasts (l .least)
       (risingDistinct leasts (risingKeep low (m .darts) (up m wf)))
       (keepMem low (m .darts) (l .least) (q .within y (l .least) d (l .member)) (l .counted))
       (q .symmetric y (l .least) d (l .member))
       (λ x i t. let k = memKept low (m .darts) x i in l .unique x (q .symmetric x y (k .0) t) (k .1))
 
-  orbitSize : (x : ℕ) → Mem x (m .darts) → length (orbitOf m c x) ≡ length (keep (listed x) (m .darts))
+  orbitSize : (x : ℕ) → Mem x (m .darts) → length (orbitOf m c x) ≡ length (keep (inOrbit m c x) (m .darts))
   orbitSize x d =
-      let own = keep (listed x) (m .darts) in
+      let own = keep (inOrbit m c x) (m .darts) in
       let there = pigeonhole (orbitOf m c x) own (orbitLaw m wf c .0 x d .once)
-      (λ z i. keepMem (listed x) (m .darts) z (listedEquivalence m wf c .within x z d i) i) in
+      (λ z i. keepMem (inOrbit m c x) (m .darts) z (inOrbitEquivalence m wf c .within x z d i) i) in
       let back = pigeonhole own (orbitOf m c x)
-      (risingDistinct own (risingKeep (listed x) (m .darts) (up m wf)))
-      (λ z i. memKept (listed x) (m .darts) z i .1) in
+      (risingDistinct own (risingKeep (inOrbit m c x) (m .darts) (up m wf)))
+      (λ z i. memKept (inOrbit m c x) (m .darts) z i .1) in
       omega arith
 
   sumSizes : sumOf (λ x. length (orbitOf m c x)) leasts ≡ length (m .darts)
   sumSizes =
-      sumExt (λ x. length (orbitOf m c x)) (λ x. length (keep (λ y. true) (keep (listed x) (m .darts)))) leasts
+      sumExt (λ x. length (orbitOf m c x)) (λ x. length (keep (λ y. true) (keep (inOrbit m c x) (m .darts)))) leasts
       (λ x i. orbitSize x (memKept (isLeastIn (orbitOf m c)) (m .darts) x i .0) ∙
-      sym (ap length (keepAll (keep (listed x) (m .darts))))) ∙
-      sumOfParts listed (λ y. true) leasts (m .darts) oneLeast ∙ ap length (keepAll (m .darts))
+      sym (ap length (keepAll (keep (inOrbit m c x) (m .darts))))) ∙
+      sumOfParts (inOrbit m c) (λ y. true) leasts (m .darts) oneLeast ∙ ap length (keepAll (m .darts))
 
   orbitsExist : 1 ≤ length (m .darts) → 1 ≤ orbits m c
-  orbitsExist = go (m .darts) (λ y d. omega (arith, oneLeast y d, keepShorter (λ r. listed r y) leasts))
+  orbitsExist = go (m .darts) (λ y d. omega (arith, oneLeast y d, keepShorter (λ r. inOrbit m c r y) leasts))
     where
       go : (ds : List ℕ) → ((y : ℕ) → Mem y ds → 1 ≤ length leasts) → 1 ≤ length ds → 1 ≤ length leasts
       go [] h some = absurd (omega arith)
