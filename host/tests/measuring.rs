@@ -1,8 +1,10 @@
 //! The rows of the benchmark: each row fails where the two sides differ.
 
-use lotskadi_host::measuring::plans::Plans;
+use lotskadi_host::binding;
+use lotskadi_host::measuring::plans::{two_tabs, Plans};
 use lotskadi_host::measuring::rows::{journal_rows, rows, Row};
 use lotskadi_host::measuring::sides::{Kernel, Plain};
+use lotskadi_host::plain;
 use lotskadi_host::testing::random::Random;
 
 fn measured(capacity: usize) -> Vec<Row> {
@@ -21,6 +23,16 @@ fn kernel_and_plain_rust_agree_on_journals() {
     let rows = journal_rows::<Kernel, Plain>(&Plans::new(&mut Random::new(1), 4096), 1);
     assert_eq!(rows.len(), 3);
     assert!(rows.iter().all(|row| row.ours > 0.0 && row.theirs > 0.0));
+}
+
+/// The row of this question compares only the yes.
+#[test]
+fn plain_rust_counts_the_steps_of_a_distance() {
+    for tabs in two_tabs(&Plans::new(&mut Random::new(1), 512).one_gap) {
+        let answer = plain::same_tie(tabs.table, tabs.first as u16, tabs.middle as u16);
+        assert_eq!(answer, binding::same_edge(tabs.table, tabs.first, tabs.middle));
+        assert!(answer.yes && answer.count > 0);
+    }
 }
 
 #[test]
