@@ -8,8 +8,7 @@ use Prim.Native.Nat.{ℕ, _<_}
 use native.Mathlib.Omega.{arith}
 use lib.Dec.{ltb, eqb}
 use borrow.Author.Tests.{eqb-true, eqb-false, ltb-true, lt-ltb, not-true}
-use Rattle.hypermap.specs.Hypermap.{Dimension, edge, vertex, isDart, of, distance}
-use Rattle.hypermap.specs.Hypermap.{sameOrbit, stepsBetween}
+use Rattle.hypermap.specs.Hypermap.{Dimension, edge, vertex, isDart, of, distance, sameOrbit}
 use Rattle.hypermap.specs.Laws.{IsDistance}
 use Rattle.hypermap.specs.Ring.{DoubleLink, isDoubleLink, allLinks, pairsDiffer}
 use Rattle.hypermap.proofs.Basics.Bools.{byCases, clash, andLeft, andRight, andTrue}
@@ -17,7 +16,7 @@ use Rattle.hypermap.proofs.Laws.Orbits.{sameOrbitLaw}
 use Rattle.hypermap.proofs.Laws.Distances.{distanceLaw}
 use Rattle.table.specs.Layout.{Table, capacity, hypermapOf}
 use Rattle.table.specs.Commands.{joins, cuts}
-use Rattle.table.specs.Inner.{WithinCapacityAtBoth}
+use Rattle.table.specs.Inner.{WithinCapacityAtBoth, distanceFound}
 use Rattle.table.proofs.Holding.{memPresent, tableHypermap}
 use Rattle.table.proofs.Walking.{lengthLaw}
 use Rattle.parts.specs.declared.Part.the-variants.{Edge, Vertex, Face, Component}
@@ -37,7 +36,7 @@ abbrev found : (w : Table) (k : Dimension) (a b : ℕ) → Answer
 found w k a b = record {
   number = 0;
   yes = sameOrbit (hypermapOf w) (of k) a b;
-  count = stepsBetween (hypermapOf w) (of k) a b;
+  count = distanceFound w (of k) a b .steps;
 }
 
 askedGiven :

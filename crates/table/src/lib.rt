@@ -22,7 +22,8 @@ pub enum Orbit {
     Face,
 }
 
-// How far one dart is from another round an orbit: the fewest steps, where they are in one orbit, and else 0.
+// How far one dart is from another round an orbit: whether the orbit reaches it, and in how many steps, which are 0 if
+// it does not.
 pub struct Distance {
     pub reached: bool,
     pub steps: u16,

@@ -95,10 +95,11 @@ pub fn write_orbit(table: &[u16], orbit: Orbit, x: u16, out: &mut [u16])
     }
 }
 
-// How far b is from a round an orbit. It walks forward from a and back from b, a step each in turn. After so many steps
-// in all the walks meet exactly where as many steps lead from a to b, so their first meeting is the distance. If one of
-// them comes home before, b is not in the orbit of a: the cost is that of the shorter orbit. The step back goes first,
-// since on a canonical tape the second dart of a join is alone. The count stays below twice the capacity.
+// How far b is from a round an orbit. One walk goes forward from a and one back from b, a step each in turn. After n
+// steps in all they are at one dart exactly if n steps lead from a to b, so their first meeting gives the distance. If
+// one of them comes home first, b is not in the orbit of a, which costs no more than the shorter orbit. The step back
+// goes first, since on a canonical tape the second dart of a join is alone. Both walks together make fewer steps than
+// twice the capacity.
 pub fn distance(table: &[u16], orbit: Orbit, a: u16, b: u16) -> Distance
     requires { ⌜ WithinCapacityAtBoth (now table) a b ⌝ }
     ensures { λ r. ⌜ r ≡ distanceFound (now (table .entry)) (kindOf orbit) a b ⌝ }

@@ -6,15 +6,6 @@ use Rattle.table.proofs.Holding.{links}
 use Rattle.table.proofs.walk.step_back.Statement.{statement}
 use Rattle.table.proofs.walk.step_back.Tie as tie
 
-word-requires : tie.Need-word-requires
-word-requires c κs = dartWord _ _ _ (c .before .before .before .pre .here) (omega arith)
-
-word-requires-2 : tie.Need-word-requires-2
-word-requires-2 c κs = dartWord _ _ _ (c .before .before .before .pre .here) (omega arith)
-
-word-requires-3 : tie.Need-word-requires-3
-word-requires-3 c κs = dartWord _ _ _ (c .before .before .before .pre .here) (omega arith)
-
 word-requires-4 : tie.Need-word-requires-4
 word-requires-4 c κs =
     let s = c .before .before .before .before .pre in
@@ -34,11 +25,11 @@ step-back-spec =
     tie.close
     (tie.spec
     (λ c. search needs)
-    word-requires
+    (λ c κs. dartWord _ _ _ (c .before .before .before .pre .here) (omega arith))
     (λ c. search needs)
-    word-requires-2
+    (λ c κs. dartWord _ _ _ (c .before .before .before .pre .here) (omega arith))
     (λ c. search needs)
-    word-requires-3
+    (λ c κs. dartWord _ _ _ (c .before .before .before .pre .here) (omega arith))
     word-requires-4
     returns
     returns-2
