@@ -10,7 +10,8 @@ ghost use Rattle.table.specs.declared.Orbit.TheVariants as orbit;
 ghost use Rattle.parts.specs.declared.Part.TheVariants as part;
 ghost use Rattle.tape.specs.Runs.{told_of};
 ghost use Rattle.kernel.specs.Calls.{call_refusal, call_leaves, ring_call_refusal, ring_call_leaves, report_of};
-ghost use Rattle.kernel.specs.Calls.{component_report_of, same_answer, round_answer, round_leaves, marks_answer, marks_leaves};
+ghost use Rattle.kernel.specs.Calls.{component_report_of, same_answer, round_answer, round_leaves, marks_answer};
+ghost use Rattle.kernel.specs.Calls.{marks_leaves};
 ghost use Rattle.kernel.specs.Tapes.{play_outcome, needs_answer, tape_answer, tape_leaves};
 ghost use Rattle.kernel.specs.Tapes.{screen_refusal, screen_leaves};
 

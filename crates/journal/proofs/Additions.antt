@@ -127,7 +127,8 @@ module _ (w : Table) (j : Journal) (used room : ℕ) (h : WithRoom w j used room
 
     -- the refusal by one name after another, the words that it lets be written, and the entry
     module _
-        (m : ℕ) (v : Table) (p : record { value : m ≡ n; table : v ≡ leaves n (command_on w c) w }) (r : ℕ) (l : Journal)
+        (m : ℕ) (v : Table) (p : record { value : m ≡ n; table : v ≡ leaves n (command_on w c) w }) (r : ℕ)
+        (l : Journal)
         (q : record { value : r ≡ m; journal : l ≡ leaves m (with_entry j used (entry_of c)) j }) where
       pub arm_adds :
           record {

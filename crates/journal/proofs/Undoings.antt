@@ -85,7 +85,11 @@ latest_length j p (suc n) = ap suc (latest_length j p n)
 
 -- no more are undone than there are
 pub undone_at_most : (w : Table) (j : Journal) (p n : ℕ) → (undoing w j p n).accepted ≤ n
-undone_at_most w j p n = omega (arith, (run_law Table Entry undo_rule w (latest_first j p n) 0).few, latest_length j p n)
+undone_at_most w j p n = omega (
+  arith,
+  (run_law Table Entry undo_rule w (latest_first j p n) 0).few,
+  latest_length j p n,
+)
 
 -- GOING BACK: from w₀ and all used entries down to n of them
 pub record Going (w₀ : Table) (j : Journal) (used to : ℕ) (w : Table) (n : ℕ) : Type 0 where
@@ -111,7 +115,8 @@ going_first w j used to p =
 -- the entry that comes next, as code reads it
 pub entry_read :
     (j : Journal) (n k : ℕ) → k ≡ n - 1 → (c a b : ℕ) → c ≡ get_or j (words_per_entry * k) 0 →
-    a ≡ get_or j (words_per_entry * k + 1) 0 → b ≡ get_or j (words_per_entry * k + 2) 0 → entry c a b ≡ entry_at j (n - 1)
+    a ≡ get_or j (words_per_entry * k + 1) 0 → b ≡ get_or j (words_per_entry * k + 2) 0 →
+    entry c a b ≡ entry_at j (n - 1)
 unfolding entry_at
 entry_read j n k e c a b p q r = rw (p, q, r, e)
 

@@ -9,7 +9,8 @@ use Rattle.tape.specs.Steps.{TapeCommand}
 use Rattle.tape.specs.Runs.{tape_run}
 use Rattle.soundness.specs.Soundness.{table_refusal, tape_refusal}
 use Rattle.journal.specs.Entries.{Journal}
-use Rattle.journal.specs.Heads.{head_refusal, checkpoint_of, with_length, with_checkpoint, cut_back, set_refusal, back_refusal}
+use Rattle.journal.specs.Heads.{head_refusal, checkpoint_of, with_length, with_checkpoint, cut_back, set_refusal}
+use Rattle.journal.specs.Heads.{back_refusal}
 use Rattle.journal.specs.Journaling.{Recorded, journaled_refusal, journaled_on, journal_rule}
 use Rattle.journal.specs.Undoing.{undoing}
 use Rattle.journal.specs.declared.Head.{Head}

@@ -71,7 +71,11 @@ accepted (c ∷ cs) w s a =
     let k = step_holds w c s a.0 in
     let r : greatest (named_in cs) ≤ capacity w = rw k.1 at (accepted cs (step_on w c) k.0 a.1) in
     let l = named_below w c a.0 in
-    omega (arith, greatest_append (named_by c) (named_in cs), larger_is (greatest (named_by c)) (greatest (named_in cs)))
+    omega (
+      arith,
+      greatest_append (named_by c) (named_in cs),
+      larger_is (greatest (named_by c)) (greatest (named_in cs)),
+    )
 
 pub accepted_capacity_law : AcceptedCapacityLaw
 accepted_capacity_law w cs = accepted cs w

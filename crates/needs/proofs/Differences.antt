@@ -13,7 +13,8 @@ use borrow.Author.Tests.{eqb-false, ne_eqb, ltb-true, ltb-false, not-true}
 use Rattle.hypermap.specs.Lists.{among, keep, distinct}
 use Rattle.hypermap.specs.Hypermap.{Dimension, of}
 use Rattle.hypermap.proofs.Basics.Bools.{by_cases, clash}
-use Rattle.hypermap.proofs.Basics.Lists.{Mem, mem_nil, mem_cases, not_among, keep_mem, mem_kept, rising_keep, rising_distinct}
+use Rattle.hypermap.proofs.Basics.Lists.{Mem, mem_nil, mem_cases, not_among, keep_mem, mem_kept, rising_keep}
+use Rattle.hypermap.proofs.Basics.Lists.{rising_distinct}
 use Rattle.hypermap.proofs.Basics.Lists.{pigeonhole}
 use Rattle.table.specs.Limits.{hypermap_words, words_per_change}
 use Rattle.table.specs.Layout.{Table, capacity, up_from, place, word_at, next_word, back_word, is_present}

@@ -94,7 +94,8 @@ module _ (w : Table) (x v : ℕ) (k : HypermapAt w x) (one : 1 ≤ v) where
   closed = component_closed (hypermap_of w) wf x start
 
   same_around : (y z : ℕ) → Same y → in_orbit (hypermap_of w) face y z ≡ true → Same z
-  same_around y z s i = closed_orbit (hypermap_of w) wf (same_component (hypermap_of w) x) closed face y z (same_mem y s) s i
+  same_around y z s i = closed_orbit (hypermap_of w) wf (same_component (hypermap_of w) x) closed face y z
+      (same_mem y s) s i
 
   around : (y : ℕ) → Same y → in_orbit (hypermap_of w) face y (step (hypermap_of w) face y) ≡ true
   around y s = (((orbit_law (hypermap_of w) wf face).0 y (same_mem y s)).members _).1 (1, refl)
@@ -173,7 +174,8 @@ module _ (w : Table) (x v : ℕ) (k : HypermapAt w x) (one : 1 ≤ v) where
           (λ z d. by_cases (in_orbit (hypermap_of w) face y z)
           (λ t. let n : is_marked f.marks v z ≡ false = ne_eqb _ v (λ q. omega (arith, one, unmarked z t)) in
           rw (t, n, eq-eqb _ v (e.part_marked.inside z t), same_around y z s t))
-          (λ t. rw (t, off z (low w z (rw mem_present at d)) t) (bool_ext _ _ (λ u. and_true _ _ u refl) (and_left _ _))))
+          (λ t. rw (t, off z (low w z (rw mem_present at d)) t)
+          (bool_ext _ _ (λ u. and_true _ _ u refl) (and_left _ _))))
 
   -- FROM THE FIRST DART
   module _ (m q : List ℕ) (d : Unmarked w x v m q) where
@@ -225,7 +227,10 @@ module _ (w : Table) (x v : ℕ) (k : HypermapAt w x) (one : 1 ≤ v) where
     same_at = h.state.queued head l
 
     pub head_mark : HasMark f.marks at
-    head_mark = record { low = same_low at same_at; high = omega (arith, high w at (same_dart at same_at), h.state.size) }
+    head_mark = record {
+      low = same_low at same_at;
+      high = omega (arith, high w at (same_dart at same_at), h.state.size);
+    }
 
     -- its face is marked
     past :

@@ -15,7 +15,8 @@ use Rattle.plan.specs.Lines.{refused_line, accepted_line, lines_over, lines_of}
 use Rattle.plan.specs.Inner.{instruction_line}
 
 -- an instruction has the line of the command that it stands for
-pub line_of_meaning : (w : Table) (bs : List ℕ) (i : Instruction) → instruction_line w i ≡ accepted_line w (meaning bs i)
+pub line_of_meaning : (w : Table) (bs : List ℕ) (i : Instruction) →
+    instruction_line w i ≡ accepted_line w (meaning bs i)
 line_of_meaning w bs (instruction.Change c) = refl
 line_of_meaning w bs instruction.Report = refl
 line_of_meaning w bs (instruction.RingCut n) = refl
@@ -37,11 +38,13 @@ module _ (w : Table) (bs : List ℕ) where
       pub lines_stopped :
           (step_refusal w (command_of bs) ≡ 0 → ⊥) → lines_of w bs ≡ refused_line (step_refusal w (command_of bs))
       unfolding lines_over
-      lines_stopped d = ap (lines_through w) ((reading_law bs).read some e) ∙ rw (ne_eqb (step_refusal w (command_of bs)) 0 d)
+      lines_stopped d = ap (lines_through w) ((reading_law bs).read some e) ∙
+          rw (ne_eqb (step_refusal w (command_of bs)) 0 d)
 
       pub lines_on :
           step_refusal w (command_of bs) ≡ 0 →
           lines_of w bs ≡
           accepted_line (step_on w (command_of bs)) (command_of bs) ++ lines_of (step_on w (command_of bs)) (rest_of bs)
       unfolding lines_over
-      lines_on z = ap (lines_through w) ((reading_law bs).read some e) ∙ rw (eq-eqb (step_refusal w (command_of bs)) 0 z)
+      lines_on z = ap (lines_through w) ((reading_law bs).read some e) ∙
+          rw (eq-eqb (step_refusal w (command_of bs)) 0 z)

@@ -75,7 +75,8 @@ unfolding call_leaves leaves
 accepted_leaves w c e = rw (eq-eqb (call_refusal w c) 0 e)
 
 -- A RING
-pub ring_passed : (w : Table) (ws : List ℕ) → ring_call_refusal w ws ≡ 0 → (table_refusal w ≡ 0) × (ring_refusal w ws ≡ 0)
+pub ring_passed : (w : Table) (ws : List ℕ) → ring_call_refusal w ws ≡ 0 → (table_refusal w ≡ 0) ×
+    (ring_refusal w ws ≡ 0)
 unfolding ring_call_refusal
 ring_passed w ws e = passed (table_refusal w) (ring_refusal w ws) e
 
@@ -83,7 +84,8 @@ pub ring_fits : (w : Table) (ws : List ℕ) → table_refusal w ≡ 0 → ring_r
 unfolding ring_call_refusal or_else
 ring_fits w ws e f = rw (e, f)
 
-pub ring_leaves : (w : Table) (ws : List ℕ) → ring_call_refusal w ws ≡ 0 → ring_call_leaves w ws ≡ cut_along (links_of ws) w
+pub ring_leaves : (w : Table) (ws : List ℕ) → ring_call_refusal w ws ≡ 0 →
+    ring_call_leaves w ws ≡ cut_along (links_of ws) w
 unfolding ring_call_leaves leaves
 ring_leaves w ws e = rw (eq-eqb (ring_call_refusal w ws) 0 e)
 

@@ -15,7 +15,8 @@ use Rattle.hypermap.proofs.Basics.Bools.{by_cases}
 use Rattle.table.specs.Layout.{Table, is_present, holds_hypermap, hypermap_of}
 use Rattle.table.specs.Commands.{Command, puts, takes_out, joins, cuts, swapped, is_together, command_on, leaves}
 use Rattle.table.specs.Laws.{Holds, AddsDart}
-use Rattle.table.proofs.Accepting.{put_passed, put_fits, take_out_passed, take_out_fits, join_passed, join_fits, cut_passed}
+use Rattle.table.proofs.Accepting.{put_passed, put_fits, take_out_passed, take_out_fits, join_passed, join_fits}
+use Rattle.table.proofs.Accepting.{cut_passed}
 use Rattle.table.proofs.Accepting.{cut_fits}
 use Rattle.table.proofs.Commands.{keeps_hypermap_law}
 use Rattle.table.proofs.Holding.{mem_present}

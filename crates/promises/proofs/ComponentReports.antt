@@ -70,7 +70,8 @@ module _ (w : Table) (t : table_refusal w ≡ 0) where
 
   sum :
       (f : Totals → ℕ) (g : Hypermap → ℕ) →
-      ((x : ℕ) → Reported (component_report_of w x) (component_at m x) → f (component_report_of w x) ≡ g (component_at m x)) →
+      ((x : ℕ) → Reported (component_report_of w x) (component_at m x) →
+      f (component_report_of w x) ≡ g (component_at m x)) →
       sum_of_reports w f ≡ sum_over_components m g
   sum f g h = sum_ext _ _ (representatives m) (λ x i. h x (given x i))
 

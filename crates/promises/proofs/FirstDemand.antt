@@ -93,7 +93,8 @@ played w tape = (
 
 -- DEMAND 1, whole
 pub first_demand : FirstDemand
-unfolding among call_leaves ring_call_leaves question_refusal same_answer screen_refusal tape_refusal screen_leaves leaves
+unfolding among call_leaves ring_call_leaves question_refusal same_answer screen_refusal tape_refusal screen_leaves
+    leaves
 first_demand = record {
   commands = λ w c. refuses (call_refusal w c) (command_on w c) w (command_one w c);
   rings = λ w ws. refuses (ring_call_refusal w ws) (cut_along (links_of ws) w) w (ring_one w ws);

@@ -18,8 +18,10 @@ use Rattle.soundness.specs.Soundness.{table_refusal, tape_refusal}
 use Rattle.journal.specs.Heads.{room_refusal, head_refusal, set_refusal, back_refusal}
 use Rattle.journal.specs.Journaling.{Recorded, journaled_refusal, journal_rule}
 use Rattle.journal.specs.Undoing.{undo_refusal, undo_rule}
-use Rattle.journal_calls.specs.Calls.{State, recorded_in, reply_by, state_refusal, perform_refusal, journal_play_refusal}
-use Rattle.journal_calls.specs.Calls.{ran_from, play_reply, checkpoint_refusal, back_call_refusal, undoing_to, went_back}
+use Rattle.journal_calls.specs.Calls.{State, recorded_in, reply_by, state_refusal, perform_refusal}
+use Rattle.journal_calls.specs.Calls.{journal_play_refusal}
+use Rattle.journal_calls.specs.Calls.{ran_from, play_reply, checkpoint_refusal, back_call_refusal, undoing_to}
+use Rattle.journal_calls.specs.Calls.{went_back}
 use Rattle.journal_calls.specs.Calls.{back_reply, Call, performs, plays, sets_checkpoint, goes_back, reply}
 use Rattle.promises.specs.FirstDemand.{table_refusals, ring_refusals, run_refusals, command_refusals}
 use Rattle.promises.specs.Journals.{journal_refusals}

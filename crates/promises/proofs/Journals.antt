@@ -19,7 +19,8 @@ use Rattle.kernel.specs.Calls.{call_refusal, call_leaves, ring_call_refusal, rin
 use Rattle.journal.specs.Entries.{Entry}
 use Rattle.journal.specs.Journaling.{Recorded, journaled_refusal, journaled_on, journal_rule}
 use Rattle.journal.specs.Undoing.{undo_rule}
-use Rattle.journal_calls.specs.Calls.{State, recorded_in, with_recorded, state_refusal, perform_refusal, checkpoint_refusal}
+use Rattle.journal_calls.specs.Calls.{State, recorded_in, with_recorded, state_refusal, perform_refusal}
+use Rattle.journal_calls.specs.Calls.{checkpoint_refusal}
 use Rattle.journal_calls.specs.Calls.{performs, reply}
 use Rattle.promises.specs.Journals.{IsUndone, call_rule, IsItsCuts, JournalPromise}
 use Rattle.promises.proofs.Accepted.{call_passed, call_fits, accepted_leaves, ring_passed, ring_fits, ring_leaves}

@@ -47,7 +47,8 @@ module _ (w : Table) (p : Part) (a b : ℕ) where
       question_refusal w (a ∷ b ∷ []) ≡ 0 →
       same_answer w p a b ≡ record { number = 0; yes = is_same w p a b; count = steps_round w p a b }
   unfolding same_answer
-  same_given z = sym (given_answer 0 (question_refusal w (a ∷ b ∷ [])) (is_same w p a b) (steps_round w p a b) (sym z) refl)
+  same_given z = sym (given_answer 0 (question_refusal w (a ∷ b ∷ [])) (is_same w p a b) (steps_round w p a b)
+      (sym z) refl)
 
   pub same_passed : (same_answer w p a b).number ≡ 0 → question_refusal w (a ∷ b ∷ []) ≡ 0
   unfolding same_answer

@@ -74,8 +74,12 @@ module _ (w : Table) (ws : List ℕ) (e : ring_call_refusal w ws ≡ 0) where
         (and_left (is_dart (hypermap_of w) l.first) _ d, and_right (is_dart (hypermap_of w) l.first) _ d)
 
     -- a report of a dart, before and after
-    asked : (x : ℕ) → Mem x (hypermap_of w).darts → (question_refusal w (x ∷ []) ≡ 0) × (question_refusal v (x ∷ []) ≡ 0)
-    asked x d = (question_fits w x t (rw mem_present at d), question_fits v x fits (sym (mem_present v x) ∙ rw same_darts d))
+    asked : (x : ℕ) → Mem x (hypermap_of w).darts → (question_refusal w (x ∷ []) ≡ 0) ×
+        (question_refusal v (x ∷ []) ≡ 0)
+    asked x d = (
+      question_fits w x t (rw mem_present at d),
+      question_fits v x fits (sym (mem_present v x) ∙ rw same_darts d),
+    )
 
     module _ (g : (component_report_of w l.first).genus ≡ 0) where
       parted : IsParted (hypermap_of w) (hypermap_of v) l ls

@@ -45,7 +45,12 @@ module _ (w : Table) (t : table_refusal w ≡ 0) where
   reach =
       let n = length (hypermap_of w).darts in
       by_cases (ltb 0 n)
-      (λ u. omega (arith, orbits_least (hypermap_of w) wf (ltb-true 0 n u), euler_equation (hypermap_of w) wf, few_darts))
+      (λ u. omega (
+        arith,
+        orbits_least (hypermap_of w) wf (ltb-true 0 n u),
+        euler_equation (hypermap_of w) wf,
+        few_darts,
+      ))
       (λ u. omega (arith, ltb-false 0 n u))
 
   genus_reported : GenusReported w

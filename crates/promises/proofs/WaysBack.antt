@@ -28,8 +28,10 @@ use Rattle.journal.proofs.Checkpoints.{longer_fits, set_fits, cut_back_fits, set
 use Rattle.journal.proofs.Checkpoints.{back_passed, kept_low, low_kept}
 use Rattle.journal.proofs.ComingBack.{Returnable, returnable_now, journaled_returnable, run_returnable}
 use Rattle.journal.proofs.ComingBack.{went_back_returnable, comes_back}
-use Rattle.journal_calls.specs.Calls.{State, recorded_in, with_recorded, state_refusal, perform_refusal, journal_play_refusal}
-use Rattle.journal_calls.specs.Calls.{play_reply, checkpoint_refusal, back_call_refusal, undoing_to, went_back, back_reply}
+use Rattle.journal_calls.specs.Calls.{State, recorded_in, with_recorded, state_refusal, perform_refusal}
+use Rattle.journal_calls.specs.Calls.{journal_play_refusal}
+use Rattle.journal_calls.specs.Calls.{play_reply, checkpoint_refusal, back_call_refusal, undoing_to, went_back}
+use Rattle.journal_calls.specs.Calls.{back_reply}
 use Rattle.journal_calls.specs.Calls.{Call, performs, plays, sets_checkpoint, goes_back, reply}
 use Rattle.promises.specs.Journals.{state_after, ComesBack, Stands, Untouched, ComesBackIf}
 use Rattle.promises.proofs.Changes.{changed}

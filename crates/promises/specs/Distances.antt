@@ -32,7 +32,8 @@ pub record DistancePromise : Type 0 where
       (w : Table) (k : Dimension) (a b : ℕ) → (asked w k a b).number ≡ 0 →
       TellsDistance (hypermap_of w) k a b (asked w k a b)
   pub short : (w : Table) (k : Dimension) (a b : ℕ) → (asked w k a b).number ≡ 0 → (asked w k a b).count < capacity w
-  pub other_parts : (w : Table) (a b : ℕ) → ((same_answer w Face a b).count ≡ 0) × ((same_answer w Component a b).count ≡ 0)
+  pub other_parts : (w : Table) (a b : ℕ) → ((same_answer w Face a b).count ≡ 0) ×
+      ((same_answer w Component a b).count ≡ 0)
   -- "Joins, cuts and rings rest on it": a join asks that the darts are apart, a cut and each double-link of a ring that
   -- the distance is not 0
   pub joins :

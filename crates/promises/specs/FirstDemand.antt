@@ -1,7 +1,8 @@
 -- The customer's first demand, about the public calls, in the customer's words. Assumes nothing.
 use Rattle.std.specs.Prelude.{◌≡◌, ◌↔◌, true, List, [], ◌∷◌, ◌++◌, ℕ}
 use Rattle.hypermap.specs.Lists.{among}
-use Rattle.table.specs.Refusals.{wrong_size, bent_table, off_the_table, no_tab, tab_taken, tab_held, together, apart, same_tab}
+use Rattle.table.specs.Refusals.{wrong_size, bent_table, off_the_table, no_tab, tab_taken, tab_held, together, apart}
+use Rattle.table.specs.Refusals.{same_tab}
 use Rattle.table.specs.Refusals.{no_list, tie_twice, gap_twice, path_broken, short_room, unknown_command, torn_command}
 use Rattle.table.specs.Layout.{Table}
 use Rattle.table.specs.Commands.{Command, puts, takes_out, joins, cuts}
@@ -49,7 +50,8 @@ command_refusals (cuts k a b) = wrong_size ∷ bent_table ∷ off_the_table ∷ 
 
 abbrev pub ring_refusals : List ℕ
 ring_refusals =
-    wrong_size ∷ bent_table ∷ no_list ∷ off_the_table ∷ no_tab ∷ apart ∷ same_tab ∷ tie_twice ∷ gap_twice ∷ path_broken ∷ []
+    wrong_size ∷ bent_table ∷ no_list ∷ off_the_table ∷ no_tab ∷ apart ∷ same_tab ∷ tie_twice ∷ gap_twice ∷
+    path_broken ∷ []
 
 abbrev pub dart_refusals : List ℕ
 dart_refusals = wrong_size ∷ bent_table ∷ off_the_table ∷ no_tab ∷ []
@@ -57,8 +59,8 @@ dart_refusals = wrong_size ∷ bent_table ∷ off_the_table ∷ no_tab ∷ []
 -- all but 14, since a run fills no buffer
 abbrev pub run_refusals : List ℕ
 run_refusals =
-    wrong_size ∷ bent_table ∷ off_the_table ∷ no_tab ∷ tab_taken ∷ tab_held ∷ together ∷ apart ∷ same_tab ∷ no_list ∷ tie_twice ∷
-    gap_twice ∷ path_broken ∷ unknown_command ∷ torn_command ∷ []
+    wrong_size ∷ bent_table ∷ off_the_table ∷ no_tab ∷ tab_taken ∷ tab_held ∷ together ∷ apart ∷ same_tab ∷ no_list ∷
+    tie_twice ∷ gap_twice ∷ path_broken ∷ unknown_command ∷ torn_command ∷ []
 
 pub record FirstDemand : Type 0 where
   pub commands : (w : Table) (c : Command) → Refuses (call_refusal w c) (command_refusals c) w (call_leaves w c)

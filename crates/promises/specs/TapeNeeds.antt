@@ -20,7 +20,8 @@ pub record IsForetold (n : ℕ) (tape : List ℕ) : Type 0 where
 pub record NeedsPromise : Type 0 where
   pub one : (tape : List ℕ) → OneOf (needs_answer tape).number (wrong_size ∷ unknown_command ∷ torn_command ∷ [])
   pub zeros :
-      (tape : List ℕ) → ((needs_answer tape).number ≡ 0 → ⊥) → needs_answer tape ≡ refused_needs (needs_answer tape).number
+      (tape : List ℕ) → ((needs_answer tape).number ≡ 0 → ⊥) →
+      needs_answer tape ≡ refused_needs (needs_answer tape).number
   pub long : (tape : List ℕ) → max_tape < length tape → (needs_answer tape).number ≡ wrong_size
   pub unreadable : (tape : List ℕ) → length tape ≤ max_tape → (needs_answer tape).number ≡ (contents_of tape).refusal
   pub count :

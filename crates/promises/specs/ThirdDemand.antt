@@ -9,7 +9,8 @@ use Rattle.table.specs.Commands.{joins}
 use Rattle.parts.specs.Sharing.{is_same}
 use Rattle.parts.specs.declared.Part.TheVariants.{Face, Component}
 use Rattle.rings.specs.Rings.{links_of}
-use Rattle.kernel.specs.Calls.{call_refusal, call_leaves, report_of, ring_call_refusal, ring_call_leaves, component_report_of}
+use Rattle.kernel.specs.Calls.{call_refusal, call_leaves, report_of, ring_call_refusal, ring_call_leaves}
+use Rattle.kernel.specs.Calls.{component_report_of}
 
 -- DEMAND 3
 -- "For every sound plan, twice its pieces less its characteristic is even and never negative; half of it is the

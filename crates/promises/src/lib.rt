@@ -2,4 +2,3 @@
 // term that proves it. No code.
 
 #![tactic(auto)]
-

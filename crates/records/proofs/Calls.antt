@@ -69,7 +69,8 @@ refused_reply :
     (s : State) (ws : List ℕ) → is_list ws ≡ false →
     perform_reply s (cuts_ring ws) ≡ stopped (or_else (state_refusal s) no_list) s
 refused_reply s ws e =
-    ap (λ (n : ℕ). reply_by n (with_recorded s (journaled_on (recorded_in s) (cuts_ring ws))) s) (perform_refused s ws e) ∙
+    ap (λ (n : ℕ). reply_by n (with_recorded s (journaled_on (recorded_in s) (cuts_ring ws))) s)
+    (perform_refused s ws e) ∙
     ap (λ (t : State). record { number = or_else (state_refusal s) no_list; accepted = 0; state = t })
     (unchanged (state_refusal s) _ s)
 

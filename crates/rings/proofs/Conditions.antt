@@ -9,7 +9,8 @@ use lib.ListN.{length}
 use borrow.Author.Tests.{eqb-true, ltb-true}
 use Rattle.hypermap.specs.Lists.{all}
 use Rattle.hypermap.specs.Hypermap.{Hypermap, is_dart, same_edge}
-use Rattle.hypermap.specs.Ring.{DoubleLink, is_double_link, all_links, unicity, continuity, closure, simplicity, is_ring}
+use Rattle.hypermap.specs.Ring.{DoubleLink, is_double_link, all_links, unicity, continuity, closure, simplicity}
+use Rattle.hypermap.specs.Ring.{is_ring}
 use Rattle.hypermap.specs.Ring.{pairs_differ}
 use Rattle.hypermap.proofs.Basics.Bools.{clash, and_left, and_right, and_true}
 use Rattle.table.specs.Refusals.{no_list, apart, same_tab, tie_twice, gap_twice, path_broken}
@@ -50,10 +51,12 @@ module _ (w : Table) where
   links_darts (a ∷ []) p t = refl
   links_darts (a ∷ b ∷ ws) p t =
       let q = and_right (is_present w a) (is_present w b && all (is_present w) ws) p in
-      let i : is_dart m a ≡ true = mem_present w a ∙ and_left (is_present w a) (is_present w b && all (is_present w) ws) p in
+      let i : is_dart m a ≡ true = mem_present w a ∙
+      and_left (is_present w a) (is_present w b && all (is_present w) ws) p in
       let j : is_dart m b ≡ true = mem_present w b ∙ and_left (is_present w b) (all (is_present w) ws) q in
       let s = and_left (same_edge m a b) _ t in
-      rw (i, j, s) (links_darts ws (and_right (is_present w b) (all (is_present w) ws) q) (and_right (same_edge m a b) _ t))
+      rw (i, j, s) (links_darts ws (and_right (is_present w b) (all (is_present w) ws) q)
+      (and_right (same_edge m a b) _ t))
 
   darts_links :
       (ws : List ℕ) → length ws % 2 ≡ 0 → all_links (is_double_link m) (links_of ws) ≡ true →
@@ -88,7 +91,8 @@ ring_from m (l ∷ ls) n d f =
     and_true (is_ring m l ls) (pairs_differ (l ∷ ls)) (rw (d, f.edges, c, e) f.faces) f.differ
 
 pub ring_to :
-    (m : Hypermap) (ls : List DoubleLink) → is_ring_of m ls ≡ true → (all_links (is_double_link m) ls ≡ true) × Fitting m ls
+    (m : Hypermap) (ls : List DoubleLink) → is_ring_of m ls ≡ true → (all_links (is_double_link m) ls ≡ true) ×
+    Fitting m ls
 unfolding is_ring_of path_closes
 ring_to m [] t = absurd (clash t refl)
 ring_to m (l ∷ ls) t =

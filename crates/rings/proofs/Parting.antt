@@ -56,7 +56,10 @@ module _
 
   pairs : (is_ring m l ls ≡ true) × (pairs_differ (l ∷ ls) ≡ true)
   unfolding is_ring_of
-  pairs = (and_left (is_ring m l ls) (pairs_differ (l ∷ ls)) ring, and_right (is_ring m l ls) (pairs_differ (l ∷ ls)) ring)
+  pairs = (
+    and_left (is_ring m l ls) (pairs_differ (l ∷ ls)) ring,
+    and_right (is_ring m l ls) (pairs_differ (l ∷ ls)) ring,
+  )
 
   wf : is_hypermap m ≡ true
   wf = table_hypermap w s

@@ -42,14 +42,16 @@ RingCutsLaw =
 -- Theorem 2.9 for an accepted list: only the ring's own component need be planar
 abbrev pub PartingLaw : Type 0
 PartingLaw =
-    (w : Table) (ws : List ℕ) (l : DoubleLink) (ls : List DoubleLink) → holds_hypermap w ≡ true → ring_refusal w ws ≡ 0 →
+    (w : Table) (ws : List ℕ) (l : DoubleLink) (ls : List DoubleLink) → holds_hypermap w ≡ true →
+    ring_refusal w ws ≡ 0 →
     links_of ws ≡ l ∷ ls → is_planar (component_at (hypermap_of w) l.first) ≡ true →
     IsParted (hypermap_of w) (hypermap_of (cut_along (links_of ws) w)) l ls
 
 -- on a planar hypermap, which stays planar
 abbrev pub PlanarPartingLaw : Type 0
 PlanarPartingLaw =
-    (w : Table) (ws : List ℕ) (l : DoubleLink) (ls : List DoubleLink) → holds_hypermap w ≡ true → ring_refusal w ws ≡ 0 →
+    (w : Table) (ws : List ℕ) (l : DoubleLink) (ls : List DoubleLink) → holds_hypermap w ≡ true →
+    ring_refusal w ws ≡ 0 →
     links_of ws ≡ l ∷ ls → is_planar (hypermap_of w) ≡ true →
     IsParted (hypermap_of w) (hypermap_of (cut_along (links_of ws) w)) l ls ×
     (is_planar (hypermap_of (cut_along (links_of ws) w)) ≡ true)

@@ -1,6 +1,7 @@
 -- What a table that holds a hypermap says of its darts. A number is present, and then its successor and its
 -- predecessor in each dimension are present and undo each other, or it has four zero words. Assumes nothing.
-use Rattle.std.proofs.Common.{◌≡◌, ℕ, ◌<◌, ◌≤◌, true, false, ◌&&◌, ◌⊎◌, length, inl, inr, ⊎_elim, arith, ltb-true, lt-ltb, eq-eqb, eqb-true, le-leb, leb-true}
+use Rattle.std.proofs.Common.{◌≡◌, ℕ, ◌<◌, ◌≤◌, true, false, ◌&&◌, ◌⊎◌, length, inl, inr, ⊎_elim, arith, ltb-true}
+use Rattle.std.proofs.Common.{lt-ltb, eq-eqb, eqb-true, le-leb, leb-true}
 use Rattle.hypermap.specs.Lists.{among}
 use Rattle.hypermap.specs.Hypermap.{Dimension, edge, vertex, Hypermap, is_hypermap}
 use Rattle.hypermap.proofs.Basics.Bools.{by_cases, clash, bool_ext, or_cases, or_left, or_right, and_left, and_right}

@@ -1,6 +1,7 @@
 -- A walk forward from one dart and a walk back from another, a step each in turn: their first meeting tells how far the
 -- second dart is from the first, and if one comes home before, the darts are in different orbits. Assumes nothing.
-use Rattle.std.proofs.Common.{◌≡◌, ℕ, suc, ◌+◌, ◌<◌, ◌≤◌, true, false, ltb, ◌↔◌, sym, refl, ap, ◌∙◌, add-one, arith, ltb-false, ltb-true}
+use Rattle.std.proofs.Common.{◌≡◌, ℕ, suc, ◌+◌, ◌<◌, ◌≤◌, true, false, ltb, ◌↔◌, sym, refl, ap, ◌∙◌, add-one, arith}
+use Rattle.std.proofs.Common.{ltb-false, ltb-true}
 use Rattle.hypermap.specs.Hypermap.{is_hypermap, Kind, step, step_back}
 use Rattle.hypermap.specs.Laws.{iterate}
 use Rattle.hypermap.proofs.Basics.Bools.{by_cases}

@@ -1,6 +1,7 @@
 -- The opposite of an accepted command is accepted and restores every word: the change of four words undoes itself, and
 -- put and take out write the words of one dart. Assumes nothing.
-use Rattle.std.proofs.Common.{◌≡◌, ℕ, suc, ◌*◌, ◌/◌, ◌%◌, ◌<◌, ◌≤◌, true, not, eqb, length, get_or, sym, refl, ap, ◌∙◌, arith, ext_get_or, eqb-true}
+use Rattle.std.proofs.Common.{◌≡◌, ℕ, suc, ◌*◌, ◌/◌, ◌%◌, ◌<◌, ◌≤◌, true, not, eqb, length, get_or, sym, refl, ap, ◌∙◌}
+use Rattle.std.proofs.Common.{arith, ext_get_or, eqb-true}
 use borrow.Author.Tests.{eqb-false}
 use Rattle.hypermap.specs.Lists.{among}
 use Rattle.hypermap.specs.Hypermap.{Dimension, Hypermap, is_hypermap, of}

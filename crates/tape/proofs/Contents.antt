@@ -23,7 +23,8 @@ unfolding read_refusal
 size_fits bs e =
     leb-true (size_of bs) (length bs)
     (fitting (leb (size_of bs) (length bs)) torn_command (omega arith)
-    (passed (unless (is_command (byte_of bs)) unknown_command) (unless (leb (size_of bs) (length bs)) torn_command) e).1)
+    (passed (unless (is_command (byte_of bs)) unknown_command) (unless (leb (size_of bs) (length bs)) torn_command)
+    e).1)
 
 -- so the rest is shorter
 pub rest_shorter : (bs : List ℕ) → 0 < length bs → length (rest_of bs) < length bs

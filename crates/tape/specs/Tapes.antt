@@ -1,6 +1,7 @@
 -- How commands stand on a tape: one byte, then operands of two bytes, low byte first. Document 01, "Commands" and
 -- "Tape". Assumes nothing: these are definitions.
-use Rattle.std.specs.Prelude.{Bool, ◌&&◌, cond, List, [], ◌∷◌, ◌++◌, ℕ, zero, suc, ◌+◌, ◌*◌, ◌/◌, ◌%◌, leb, ltb, eqb, length, get_or, drop}
+use Rattle.std.specs.Prelude.{Bool, ◌&&◌, cond, List, [], ◌∷◌, ◌++◌, ℕ, zero, suc, ◌+◌, ◌*◌, ◌/◌, ◌%◌, leb, ltb, eqb}
+use Rattle.std.specs.Prelude.{length, get_or, drop}
 use Rattle.hypermap.specs.Hypermap.{Dimension, edge, vertex}
 use Rattle.table.specs.Refusals.{unknown_command, torn_command, or_else, unless}
 use Rattle.table.specs.Commands.{Command, puts, takes_out, joins, cuts}

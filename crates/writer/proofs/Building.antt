@@ -28,7 +28,8 @@ use Rattle.writer.proofs.Rejoining.{Unjoined, Rejoined, rejoin}
 module _
     (v w : Table) (sv : holds_hypermap v ≡ true) (sw : holds_hypermap w ≡ true)
     (d : (hypermap_of v).darts ≡ (hypermap_of w).darts)
-    (next : (k : Dimension) (x : ℕ) → is_present w x ≡ true → word_at v x (next_word k) ≡ word_at w x (next_word k)) where
+    (next :
+    (k : Dimension) (x : ℕ) → is_present w x ≡ true → word_at v x (next_word k) ≡ word_at w x (next_word k)) where
   same_back : (k : Dimension) (x : ℕ) → is_present w x ≡ true → word_at v x (back_word k) ≡ word_at w x (back_word k)
   same_back k x p =
       let i = links w sw k x p in

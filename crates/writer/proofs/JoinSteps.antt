@@ -24,7 +24,8 @@ use Rattle.table.proofs.Swaps.{swap_law}
 use Rattle.tape.specs.Steps.{changes, step_rule}
 use Rattle.writer.proofs.Cycles.{turn}
 
-pub same_present : (v w : Table) → (hypermap_of v).darts ≡ (hypermap_of w).darts → (x : ℕ) → is_present v x ≡ is_present w x
+pub same_present : (v w : Table) → (hypermap_of v).darts ≡ (hypermap_of w).darts → (x : ℕ) →
+    is_present v x ≡ is_present w x
 same_present v w d x = sym (mem_present v x) ∙ ap (among x) d ∙ mem_present w x
 
 -- A JOIN with t alone: what t reaches is t

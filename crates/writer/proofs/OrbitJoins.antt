@@ -43,7 +43,8 @@ module _ {w : Table} {k : Dimension} {x from : ℕ} {o : List ℕ} (r : OrbitJoi
 
     stands :
         {q : List ℕ} {at : ℕ} →
-        Laying from (tape_bytes (orbit_joins (hypermap_of w) k x)) (left_joins w k x z) o q at → Joining w k x from o q at y
+        Laying from (tape_bytes (orbit_joins (hypermap_of w) k x)) (left_joins w k x z) o q at →
+        Joining w k x from o q at y
     stands l = record { last = rw is_behind on; next = rw is_behind e; laying = rw is_behind l }
 
   pub joining_first : {y : ℕ} → y ≡ word_at w x (next_word k) → Joining w k x from o o from y

@@ -87,7 +87,8 @@ joins_bytes :
 unfolding tape_bytes bytes_over joins_over
 joins_bytes m k [] = refl
 joins_bytes m k (x ∷ xs) =
-    tape_append (orbit_joins m k x) (joins_over m k xs) ∙ ap (λ t. tape_bytes (orbit_joins m k x) ++ t) (joins_bytes m k xs)
+    tape_append (orbit_joins m k x) (joins_over m k xs) ∙
+    ap (λ t. tape_bytes (orbit_joins m k x) ++ t) (joins_bytes m k xs)
 
 module _ (w : Table) where
   pub all_puts :
@@ -105,7 +106,8 @@ module _ (w : Table) where
       bytes_over (λ x. tape_bytes (orbit_joins (hypermap_of w) k x)) (keep (is_first k) (up_from 1 (capacity w)))
   all_joins k =
       joins_bytes (hypermap_of w) k _ ∙
-      ap (bytes_over _) (keep_both (is_present w) (is_least_in (orbit_of (hypermap_of w) (of k))) (up_from 1 (capacity w)))
+      ap (bytes_over _) (keep_both (is_present w) (is_least_in (orbit_of (hypermap_of w) (of k)))
+      (up_from 1 (capacity w)))
 
   -- a number that is marked with itself is the first dart of an orbit
   pub first_test :

@@ -12,7 +12,8 @@ use Rattle.hypermap.specs.Hypermap.{edge, vertex}
 use Rattle.table.specs.Refusals.{or_else, unless}
 use Rattle.table.specs.Commands.{Command, puts, takes_out, joins, cuts}
 use Rattle.tape.specs.Steps.{changes}
-use Rattle.tape.specs.Tapes.{operand_bytes, is_command, command_size, number_at, size_of, command_of, read_refusal, rest_of}
+use Rattle.tape.specs.Tapes.{operand_bytes, is_command, command_size, number_at, size_of, command_of, read_refusal}
+use Rattle.tape.specs.Tapes.{rest_of}
 use Rattle.tape.specs.Tapes.{contents_of, after, bytes_of, tape_bytes}
 use Rattle.tape.proofs.Contents.{reading_law}
 

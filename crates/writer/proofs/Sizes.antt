@@ -89,7 +89,11 @@ joins_over_size :
 unfolding tape_bytes joins_over orbit_joins sum_of
 joins_over_size m k [] = refl
 joins_over_size m k (x ∷ xs) =
-    rw (tape_append, length-append) (omega (arith, joins_over_size m k xs, joins_size k x (drop 1 (orbit_of m (of k) x))))
+    rw (tape_append, length-append) (omega (
+      arith,
+      joins_over_size m k xs,
+      joins_size k x (drop 1 (orbit_of m (of k) x)),
+    ))
 
 module _ (m : Hypermap) (wf : is_hypermap m ≡ true) where
   dimension_size : (k : Dimension) → length (tape_bytes (joins_of m k)) + 5 * orbits m (of k) ≡ 5 * length m.darts
@@ -122,7 +126,8 @@ tape_parts w =
 pub orbits_few : (m : Hypermap) (c : Kind) → orbits m c ≤ length m.darts
 orbits_few m c = keep_shorter (is_least_in (orbit_of m c)) m.darts
 
-pub tape_fits : (w : Table) → holds_hypermap w ≡ true → capacity w ≤ max_capacity → length (tape_of w) ≤ longest_canonical
+pub tape_fits : (w : Table) → holds_hypermap w ≡ true → capacity w ≤ max_capacity →
+    length (tape_of w) ≤ longest_canonical
 tape_fits w s room =
     let d = darts_few w in
     let e = orbits_exist (hypermap_of w) (table_hypermap w s) (of edge) in

@@ -7,7 +7,8 @@ returns-then-refusal-ne0 c = back_bent _ _ _ c.state_refusal-refusal.ensures c.i
 
 pub returns-then-to : goal.returns-then-to
 returns-then-to c =
-    back_none _ _ _ c.state_refusal-refusal.ensures c.if-refusal-ne0.false (c.checkpoint_of-to.ensures.none c.if-to.true)
+    back_none _ _ _ c.state_refusal-refusal.ensures c.if-refusal-ne0.false
+    (c.checkpoint_of-to.ensures.none c.if-to.true)
 
 pub undo_back-undos-requires : goal.undo_back-undos-requires
 undo_back-undos-requires c =

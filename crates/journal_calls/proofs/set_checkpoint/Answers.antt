@@ -7,7 +7,8 @@ returns-then-refusal-ne0 c =
 
 pub with_checkpoint-requires : goal.with_checkpoint-requires
 with_checkpoint-requires c =
-    set_low _ _ _ _ c.head_refusal.ensures _ c.unless_so-known.ensures _ c.or_else-refusal.ensures c.if-refusal-ne0.false
+    set_low _ _ _ _ c.head_refusal.ensures _ c.unless_so-known.ensures _ c.or_else-refusal.ensures
+    c.if-refusal-ne0.false
 
 pub returns : goal.returns
 returns c =

@@ -59,7 +59,8 @@ write_unless-requires-in-VertexJoin c z =
 pub write_swap_unless-made-requires-in-VertexCut : goal.write_swap_unless-made-requires-in-VertexCut
 write_swap_unless-made-requires-in-VertexCut c z =
     cut_at
-    (change_accepts _ _ _ _ c.requires _ _ c.cut_refusal-in-VertexCut.ensures _ c.or_full-refusal-in-VertexCut.ensures z)
+    (change_accepts _ _ _ _ c.requires _ _ c.cut_refusal-in-VertexCut.ensures _ c.or_full-refusal-in-VertexCut.ensures
+    z)
 
 pub write_unless-requires-in-VertexCut : goal.write_unless-requires-in-VertexCut
 write_unless-requires-in-VertexCut c z =

@@ -24,4 +24,5 @@ pub returns : goal.returns
 returns c =
     let p = c.requires in
     let f = c.flood_all-found in
-    c.marked_counts.ensures ∙ ap counts_of (all_is _ p.hypermap p.room max_capacity p.room _ f.auto.marks f.ensures.marks)
+    c.marked_counts.ensures ∙ ap counts_of
+    (all_is _ p.hypermap p.room max_capacity p.room _ f.auto.marks f.ensures.marks)

@@ -1,7 +1,8 @@
 use Rattle.std.proofs.Common.{refl, sym, arith}
 use Rattle.parts.specs.Inner.{flooded_of}
 use Rattle.parts.proofs.Marking.{fresh_marking, fresh_part}
-use Rattle.parts.proofs.FloodingAll.{all_pass, all_none, all_other, all_fresh, all_few, all_counts, all_part_marked, all_skip}
+use Rattle.parts.proofs.FloodingAll.{all_pass, all_none, all_other, all_fresh, all_few, all_counts, all_part_marked}
+use Rattle.parts.proofs.FloodingAll.{all_skip}
 use Rattle.parts.proofs.count.flood_all.Goals as goal
 
 pub loop-queue-init : goal.loop-queue-init

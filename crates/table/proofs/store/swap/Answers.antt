@@ -24,13 +24,15 @@ set_word-requires-2 c =
 pub set_word-requires-3 : goal.set_word-requires-3
 set_word-requires-3 c =
     let k = dimension_of c.args.d in
-    let n = back_number _ k _ _ _ c.requires.hypermap c.requires.second c.back_word-back.ensures.value c.word-before_b.ensures in
+    let n = back_number _ k _ _ _ c.requires.hypermap c.requires.second c.back_word-back.ensures.value
+    c.word-before_b.ensures in
     omega (arith, n, c.next_word-next.ensures.small)
 
 pub set_word-requires-4 : goal.set_word-requires-4
 set_word-requires-4 c =
     let k = dimension_of c.args.d in
-    let n = back_number _ k _ _ _ c.requires.hypermap c.requires.first c.back_word-back.ensures.value c.word-before_a.ensures in
+    let n = back_number _ k _ _ _ c.requires.hypermap c.requires.first c.back_word-back.ensures.value
+    c.word-before_a.ensures in
     omega (arith, n, c.next_word-next.ensures.small)
 
 pub returns : goal.returns

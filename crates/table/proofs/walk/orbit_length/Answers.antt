@@ -23,7 +23,9 @@ loop-at-preserved c =
     walks_on c.loop-at.invariant c.requires c.step-at.ensures c.if-at-x.false
 
 pub overflow_cast-result : goal.overflow_cast-result
-overflow_cast-result c = let f = walks_counted c.loop-at.invariant c.requires c.shared_slice_known-1.given in omega arith
+overflow_cast-result c =
+    let f = walks_counted c.loop-at.invariant c.requires c.shared_slice_known-1.given in
+    omega arith
 
 pub returns : goal.returns
 returns c =

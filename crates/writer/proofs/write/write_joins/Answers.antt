@@ -7,7 +7,8 @@ use Rattle.hypermap.proofs.Basics.Bools.{and_left}
 use Rattle.table.specs.Layout.{hypermap_of}
 use Rattle.table.specs.Inner.{dimension_of}
 use Rattle.parts.proofs.LeastMarks.{marks_length}
-use Rattle.writer.proofs.Passing.{passing_none, passing_room, passing_yes, passing_no, passing_all, all_joins, first_test}
+use Rattle.writer.proofs.Passing.{passing_none, passing_room, passing_yes, passing_no, passing_all, all_joins}
+use Rattle.writer.proofs.Passing.{first_test}
 use Rattle.writer.proofs.write.write_joins.Goals as goal
 use Rattle.writer.proofs.write.write_joins.Goals.{then-mark_of-x, else-mark_of-x}
 
