@@ -27,7 +27,13 @@ PROJECTIONS = [
 ]
 
 
+# In snake case this one would be hidden, in the contracts that cite it, by a parameter.
+OTHERWISE = {"operandBytes": "operand_sizes"}
+
+
 def snake(word):
+    if word in OTHERWISE:
+        return OTHERWISE[word]
     return CAPITAL.sub(lambda found: "_", word).lower() if CAPITAL.search(word) else word
 
 

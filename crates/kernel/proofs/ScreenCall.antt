@@ -28,28 +28,14 @@ module _ (bs o : List ℕ) where
   screen_short h l = rw (le-leb (length bs) max_tape h, lt-leb screen_room (length o) l) (refl, refl)
 
   pub screen_given :
-      (e w : Table) (r : Run) (p : List ℕ) → length bs ≤ max_tape → screen_room ≤ length o →
-      e ≡ empty_table max_capacity → r ≡ told_of (run_of e bs) → w ≡ (run_of e bs).state →
-      p ≡ screen_bytes (outcome_of r w) ++ drop (length (screen_bytes (outcome_of r w))) o →
+      (p : List ℕ) → length bs ≤ max_tape → screen_room ≤ length o →
+      p ≡ screen_answer bs ++ drop (length (screen_answer bs)) o →
       (0 ≡ screen_refusal bs o) × (p ≡ screen_leaves bs o)
   unfolding screen_refusal screen_leaves tape_refusal or_else unless
-  screen_given e w r p h l q i j k =
-      rw (le-leb (length bs) max_tape h, le-leb screen_room (length o) l) (refl, k ∙ rw (i, j, q) refl)
+  screen_given p h l k =
+      rw (le-leb (length bs) max_tape h, le-leb screen_room (length o) l) (refl, k)
 
--- THE EMPTY TABLE
-pub empty_is : (n : ℕ) → replicate (words_per_dart * n) 0 ≡ empty_table n
+-- what the writer answers is said of a table of zeros
+pub answer_is : (bs : List ℕ) → screen_bytes (run_of (replicate (words_per_dart * max_capacity) 0) bs) ≡ screen_answer bs
 unfolding empty_table
-empty_is n = refl
-
-pub empty_playable :
-    (n : ℕ) (bs : List ℕ) → n ≤ max_capacity → length bs ≤ max_tape → Playable (replicate (words_per_dart * n) 0) bs
-empty_playable n bs h l = record { table = zeros_within n h; short = l }
-
--- a run on it leaves a table within the capacity
-pub screen_ready :
-    (n : ℕ) (bs o : List ℕ) (w : Table) → n ≤ max_capacity → screen_room ≤ length o →
-    w ≡ (run_of (replicate (words_per_dart * n) 0) bs).state → ScreenRoom w o
-screen_ready n bs o w h l e =
-    let k = zeros_within n h in
-    let s = run_keeps_hypermap_law (replicate (words_per_dart * n) 0) bs k.hypermap in
-    record { table = record { hypermap = rw e s.0; room = rw (e, s.1) k.room }; room = l }
+answer_is bs = refl

@@ -22,13 +22,13 @@ pub use parts::Part;
 use parts::{count, flood, share};
 use rings::cut as ring_cutting;
 use soundness::table_refusal;
-use table::limits::{EDGE_NEXT, MAX_TAPE, MAX_WORDS, SCREEN_ROOM, WORDS_PER_DART};
+use table::limits::{EDGE_NEXT, MAX_TAPE, SCREEN_ROOM, WORDS_PER_DART};
 use table::words::to_word;
 pub use table::{Change, Dimension, Orbit};
 use table::{changes, refusals, walk, words};
 pub use tape::Run;
 use tape::play as player;
-use writer::screen::write_answer;
+use writer::screen::play_and_answer;
 use writer::write;
 
 // What a report answers: a refusal and zeros, or 0 and the numbers in document 01's order.
@@ -291,8 +291,6 @@ pub fn screen(tape: &[u8], out: &mut [u8]) -> u8
     if out.len() < SCREEN_ROOM {
         return refusals::SHORT_ROOM;
     }
-    let mut table = [0u16; MAX_WORDS];
-    let run = player::play(&mut table, tape);
-    write_answer(&table, run, out);
+    play_and_answer(tape, out);
     0
 }

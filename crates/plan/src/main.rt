@@ -4,7 +4,7 @@
 
 #![tactic(auto)]
 
-ghost use Rattle.std.specs.Prelude.{OnOk};
+ghost use Rattle.std.specs.Prelude.{◌≤◌, length, IfOk, OnOk};
 ghost use Rattle.std.specs.Io.KnownBytes.{Appends};
 ghost use Rattle.plan.specs.Lines.{lines_of};
 ghost use Rattle.plan.specs.Inner.{Ready};
@@ -50,15 +50,30 @@ fn write_run<W: Write>(
     }
 }
 
+// Reads until the buffer is full or the input ends, and answers how many bytes came.
+fn read_full<R: Read>(input: &mut R, bytes: &mut [u8]) -> io::Result<usize>
+    ensures { IfOk result (λ n. n ≤ length bytes.new) }
+{
+    let mut n = 0;
+    while n < bytes.len() {
+        let read = input.read(&mut bytes[n..])?;
+        if read == 0 {
+            return Ok(n);
+        }
+        n += read;
+    }
+    Ok(n)
+}
+
 fn main(rt: HostRuntime) -> io::Result<()> {
-    let mut tape = Vec::with_capacity(rt.alloc(), READ_BYTES)?;
-    rt.stdin().take(READ_BYTES as u64).read_to_end(&mut tape)?;
+    let mut tape = [0u8; READ_BYTES];
+    let n = read_full(&mut rt.stdin(), &mut tape)?;
     let mut lines = io::writer(&rt);
     let mut out = [0u8; playing::OUT_BYTES];
-    if MAX_TAPE < tape.len() {
+    if MAX_TAPE < n {
         let end = text::write_refused(&mut out, 0, refusals::WRONG_SIZE);
         return lines.write_all(&out[..end]);
     }
     let mut table = [0u16; MAX_WORDS];
-    write_run(&mut lines, &mut table, tape.as_slice(), &mut out)
+    write_run(&mut lines, &mut table, &tape[..n], &mut out)
 }

@@ -29,15 +29,15 @@ fn write_byte(out: &mut [u8], at: usize, byte: u8) -> usize
 }
 
 // The digits of a number: those of a tenth of it, and then the last one.
-fn write_number(out: &mut [u8], from: usize, n: u32) -> usize
-    requires { HasRoom from (decimal n) out.old }
-    ensures { Lays from (decimal n) out.old out.new result }
+fn write_number(out: &mut [u8], at: usize, n: u32) -> usize
+    requires { HasRoom at (decimal n) out.old }
+    ensures { Lays at (decimal n) out.old out.new result }
 {
     if n < 10 {
-        return write_byte(out, from, b'0' + n as u8);
+        return write_byte(out, at, b'0' + n as u8);
     }
-    let at = write_number(out, from, n / 10);
-    write_byte(out, at, b'0' + (n % 10) as u8)
+    let last = write_number(out, at, n / 10);
+    write_byte(out, last, b'0' + (n % 10) as u8)
 }
 
 // A space, and a number that is not negative.

@@ -12,7 +12,7 @@ use table::limits::WORDS_PER_DART;
 const WORDS: usize = 5 * WORDS_PER_DART;
 
 // What a change or a ring cut answered, at the end of its line.
-fn tell_reply(rt: &impl Print, reply: u8) -> io::Result<()> {
+fn write_reply(rt: &impl Print, reply: u8) -> io::Result<()> {
     if reply == 0 {
         println!(rt; ": ok")
     } else {
@@ -22,7 +22,7 @@ fn tell_reply(rt: &impl Print, reply: u8) -> io::Result<()> {
 
 fn tell_put(rt: &impl Print, table: &mut [u16], x: u32) -> io::Result<()> {
     print!(rt; "put {x}")?;
-    tell_reply(rt, put(table, x))
+    write_reply(rt, put(table, x))
 }
 
 fn tell_join(rt: &impl Print, table: &mut [u16], d: Dimension, a: u32, b: u32) -> io::Result<()> {
@@ -30,7 +30,14 @@ fn tell_join(rt: &impl Print, table: &mut [u16], d: Dimension, a: u32, b: u32) -
         Dimension::Edge => print!(rt; "tie join {a} {b}")?,
         Dimension::Vertex => print!(rt; "cell join {a} {b}")?,
     }
-    tell_reply(rt, join(table, d, a, b))
+    write_reply(rt, join(table, d, a, b))
+}
+
+fn write_words(rt: &impl Print, words: &[u16]) -> io::Result<()> {
+    for word in words {
+        print!(rt; " {word}")?;
+    }
+    Ok(())
 }
 
 fn tell_look(rt: &impl Print, table: &[u16], x: u32) -> io::Result<()> {
@@ -39,22 +46,17 @@ fn tell_look(rt: &impl Print, table: &[u16], x: u32) -> io::Result<()> {
     if words.is_empty() {
         print!(rt; " empty")?;
     }
-    for word in words {
-        print!(rt; " {word}")?;
-    }
+    write_words(rt, words)?;
     println!(rt)
 }
 
 // The ring, lent as a slice of records.
-fn tell_cut(rt: &impl Print, table: &mut [u16], ring: &[DoubleLink]) -> io::Result<()> {
-    print!(rt; "ring")?;
-    for link in ring {
-        print!(rt; " {} {}", link.first, link.second)?;
-    }
-    tell_reply(rt, ring_cut_records(table, ring))
+fn cut(table: &mut [u16], ring: [DoubleLink; 2]) -> u8 {
+    ring_cut_records(table, &ring)
 }
 
-fn tell_pair(rt: &impl Print, table: &mut [u16], a: u16, b: u16, c: u16, d: u16) -> io::Result<()> {
+fn tell_cut(rt: &impl Print, table: &mut [u16], a: u16, b: u16, c: u16, d: u16) -> io::Result<()> {
+    print!(rt; "ring {a} {b} {c} {d}")?;
     let first = DoubleLink {
         first: a,
         second: b,
@@ -63,7 +65,7 @@ fn tell_pair(rt: &impl Print, table: &mut [u16], a: u16, b: u16, c: u16, d: u16)
         first: c,
         second: d,
     };
-    tell_cut(rt, table, &[first, second])
+    write_reply(rt, cut(table, [first, second]))
 }
 
 fn build_square(rt: &impl Print, table: &mut [u16]) -> io::Result<()> {
@@ -89,19 +91,19 @@ fn look_at_all(rt: &impl Print, table: &[u16]) -> io::Result<()> {
 
 // Lists that are no rings of the square, by the rising number of their refusals.
 fn cut_refused(rt: &impl Print, table: &mut [u16]) -> io::Result<()> {
-    tell_pair(rt, table, 1, 2, 3, 6)?;
-    tell_pair(rt, table, 1, 2, 3, 5)?;
-    tell_pair(rt, table, 1, 3, 2, 4)?;
-    tell_pair(rt, table, 1, 1, 3, 4)?;
-    tell_pair(rt, table, 1, 2, 2, 1)?;
-    tell_pair(rt, table, 1, 2, 4, 3)
+    tell_cut(rt, table, 1, 2, 3, 6)?;
+    tell_cut(rt, table, 1, 2, 3, 5)?;
+    tell_cut(rt, table, 1, 3, 2, 4)?;
+    tell_cut(rt, table, 1, 1, 3, 4)?;
+    tell_cut(rt, table, 1, 2, 2, 1)?;
+    tell_cut(rt, table, 1, 2, 4, 3)
 }
 
 fn refuse_wrong_size(rt: &impl Print) -> io::Result<()> {
     let mut table = [0u16; 3];
     println!(rt; "a table of 3 words")?;
     tell_look(rt, &table, 1)?;
-    tell_pair(rt, &mut table, 1, 2, 3, 4)
+    tell_cut(rt, &mut table, 1, 2, 3, 4)
 }
 
 // Dart 1 is its own successor but not its own predecessor.
@@ -110,7 +112,7 @@ fn refuse_bent(rt: &impl Print) -> io::Result<()> {
     table[0] = 1;
     println!(rt; "a bent table")?;
     tell_look(rt, &table, 1)?;
-    tell_pair(rt, &mut table, 1, 2, 3, 4)
+    tell_cut(rt, &mut table, 1, 2, 3, 4)
 }
 
 fn main(rt: HostRuntime) -> io::Result<()> {
@@ -122,9 +124,9 @@ fn main(rt: HostRuntime) -> io::Result<()> {
     cut_refused(&rt, &mut table)?;
     look_at_all(&rt, &table)?;
     println!(rt; "the ring of the square, twice")?;
-    tell_pair(&rt, &mut table, 1, 2, 3, 4)?;
+    tell_cut(&rt, &mut table, 1, 2, 3, 4)?;
     look_at_all(&rt, &table)?;
-    tell_pair(&rt, &mut table, 1, 2, 3, 4)?;
+    tell_cut(&rt, &mut table, 1, 2, 3, 4)?;
     refuse_wrong_size(&rt)?;
     refuse_bent(&rt)
 }

@@ -13,14 +13,14 @@ use borrow.Author.Tests.{leb-true, ltb-true, lt-ltb, le-leb, lt-leb, ne_eqb}
 use Rattle.hypermap.specs.Lists.{all}
 use Rattle.hypermap.proofs.Basics.Bools.{by_cases, and_left, and_right}
 use Rattle.table.specs.Refusals.{or_else, unless}
-use Rattle.tape.specs.Tapes.{operand_bytes, is_command, command_size, byte_of, size_of, read_refusal}
+use Rattle.tape.specs.Tapes.{operand_sizes, is_command, command_size, byte_of, size_of, read_refusal}
 use Rattle.tape.specs.Tapes.{number_at, numbers_from}
 use Rattle.tape.specs.Inner.{Reads}
 use Rattle.tape.specs.declared.Reading.TheVariants.{Refused}
 
 -- COMMAND BYTES are indices of the operand table, and its entries are small
 pub command_below : (b : ℕ) → is_command b ≡ true → b < 9
-unfolding is_command operand_bytes
+unfolding is_command operand_sizes
 command_below b h = ltb-true b 9 (and_right (leb 1 b) _ h)
 
 entry_below : (n : ℕ) (l : List ℕ) (i : ℕ) → all (λ x. leb x n) l ≡ true → get_or l i 0 ≤ n
@@ -29,9 +29,9 @@ entry_below n [] i h = omega arith
 entry_below n (x ∷ l) zero h = leb-true x n (and_left (leb x n) _ h)
 entry_below n (x ∷ l) (suc i) h = entry_below n l i (and_right (leb x n) _ h)
 
-pub entry_small : {l : List ℕ} → l ≡ operand_bytes → (b : ℕ) → get_or l b 0 ≤ 4
-unfolding operand_bytes all
-entry_small e b = rw e (entry_below 4 operand_bytes b refl)
+pub entry_small : {l : List ℕ} → l ≡ operand_sizes → (b : ℕ) → get_or l b 0 ≤ 4
+unfolding operand_sizes all
+entry_small e b = rw e (entry_below 4 operand_sizes b refl)
 
 pub command_small : (b : ℕ) → command_size b ≤ 5
 unfolding command_size
@@ -39,14 +39,14 @@ command_small b = let h = entry_small refl b in omega arith
 
 -- commands of one dart, and of two
 pub one_dart : (b : ℕ) → 1 ≤ b → b ≤ 2 → command_size b ≡ 3
-unfolding command_size operand_bytes
+unfolding command_size operand_sizes
 one_dart zero p q = absurd (omega arith)
 one_dart (suc zero) p q = refl
 one_dart (suc (suc zero)) p q = refl
 one_dart (suc (suc (suc b))) p q = absurd (omega arith)
 
 pub two_darts : (b : ℕ) → 3 ≤ b → b ≤ 6 → command_size b ≡ 5
-unfolding command_size operand_bytes
+unfolding command_size operand_sizes
 two_darts zero p q = absurd (omega arith)
 two_darts (suc zero) p q = absurd (omega arith)
 two_darts (suc (suc zero)) p q = absurd (omega arith)
@@ -57,7 +57,7 @@ two_darts (suc (suc (suc (suc (suc (suc zero)))))) p q = refl
 two_darts (suc (suc (suc (suc (suc (suc (suc b))))))) p q = absurd (omega arith)
 
 pub is_known : (b : ℕ) → 1 ≤ b → b ≤ 8 → is_command b ≡ true
-unfolding is_command operand_bytes
+unfolding is_command operand_sizes
 is_known b p q = rw (le-leb 1 b p, lt-ltb b 9 (omega arith))
 
 -- READING by the byte. The first command is known, and has n bytes

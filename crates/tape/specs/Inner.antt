@@ -4,7 +4,7 @@ use Rattle.table.specs.Limits.{max_tape}
 use Rattle.table.specs.Layout.{Table}
 use Rattle.table.specs.Inner.{WithinCapacity, command_for}
 use Rattle.tape.specs.Steps.{TapeCommand, changes, reports, cuts_ring}
-use Rattle.tape.specs.Tapes.{operand_bytes, byte_of, size_of, command_of, read_refusal, numbers_from}
+use Rattle.tape.specs.Tapes.{operand_sizes, byte_of, size_of, command_of, read_refusal, numbers_from}
 use Rattle.tape.specs.declared.Instruction.{Instruction}
 use Rattle.tape.specs.declared.Instruction.TheVariants as instruction
 use Rattle.tape.specs.declared.Reading.{Reading}
@@ -21,7 +21,7 @@ pub record StartsBy (tape : List ℕ) (b m n : ℕ) (lent : List ℕ) : Type 0 w
   pub byte : b ≡ byte_of tape
   pub least : m ≤ b
   pub most : b ≤ n
-  pub operands : lent ≡ operand_bytes
+  pub operands : lent ≡ operand_sizes
 
 -- the refusal that an answer of the decoder gives
 abbrev pub refusal_in : Reading → ℕ

@@ -9,15 +9,15 @@ use Rattle.tape.specs.Steps.{TapeCommand, changes, reports, cuts_ring}
 
 -- the operand bytes of each command, by its byte; no command has the byte 0, and a ring's entry is the one byte before
 -- its pairs
-unfoldable pub operand_bytes : List ℕ
-operand_bytes = 0 ∷ 2 ∷ 2 ∷ 4 ∷ 4 ∷ 4 ∷ 4 ∷ 0 ∷ 1 ∷ []
+unfoldable pub operand_sizes : List ℕ
+operand_sizes = 0 ∷ 2 ∷ 2 ∷ 4 ∷ 4 ∷ 4 ∷ 4 ∷ 0 ∷ 1 ∷ []
 
 unfoldable pub is_command : (byte : ℕ) → Bool
-is_command b = leb 1 b && ltb b (length operand_bytes)
+is_command b = leb 1 b && ltb b (length operand_sizes)
 
 -- a command's own byte and its entry in the table
 unfoldable pub command_size : (byte : ℕ) → ℕ
-command_size b = 1 + get_or operand_bytes b 0
+command_size b = 1 + get_or operand_sizes b 0
 
 -- READING. The number in two bytes from i on
 unfoldable pub number_at : (tape : List ℕ) → (i : ℕ) → ℕ

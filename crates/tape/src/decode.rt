@@ -1,7 +1,7 @@
 // The decoder: reads the first command of a tape whole, before any operand is judged.
 ghost use Rattle.std.specs.Prelude.{◌≡◌, ◌+◌, ◌*◌, ◌≤◌, ◌<◌, get_or, length};
 ghost use Rattle.table.specs.Limits.{max_word, max_tape_ring, max_tape};
-ghost use Rattle.tape.specs.Tapes.{byte_of, operand_bytes, number_at, numbers_from};
+ghost use Rattle.tape.specs.Tapes.{byte_of, operand_sizes, number_at, numbers_from};
 ghost use Rattle.tape.specs.Inner.{StartsBy, refusal_in, Reads};
 
 use crate::{Instruction, Reading, operands};
@@ -78,7 +78,7 @@ fn two_darts(tape: &[u8], byte: u8, operand_bytes: &[u8; 9]) -> Reading
 }
 
 fn ring(tape: &[u8], operand_bytes: &[u8; 9]) -> Reading
-    requires { (byte_of tape.now ≡ 8) × (operand_bytes.now ≡ operand_bytes) }
+    requires { (byte_of tape.now ≡ 8) × (operand_bytes.now ≡ operand_sizes) }
     ensures { Reads tape.now result }
 {
     let n = byte_at(tape, 1);
@@ -94,7 +94,7 @@ fn ring(tape: &[u8], operand_bytes: &[u8; 9]) -> Reading
 // tape's length by a size that the compiler knows; a report is its byte alone, which is there. Small as it is, the
 // compiler puts it into the loop of whoever reads a tape.
 pub fn read(tape: &[u8], operand_bytes: &[u8; 9]) -> Reading
-    requires { operand_bytes.now ≡ operand_bytes }
+    requires { operand_bytes.now ≡ operand_sizes }
     ensures { Reads tape.now result }
 {
     match byte_at(tape, 0) {

@@ -1,6 +1,6 @@
 // The bytes of commands: one table, for the decoder and the writer.
 ghost use Rattle.std.specs.Prelude.{◌≡◌, true};
-ghost use Rattle.tape.specs.Tapes.{operand_bytes, is_command, command_size};
+ghost use Rattle.tape.specs.Tapes.{operand_sizes, is_command, command_size};
 
 // Operand bytes by command byte. No command has the byte 0; a ring's entry is the one byte before its pairs. A caller
 // lends it: the compiler builds a constant array anew wherever it is named, and a run would pay that for each command.
@@ -30,7 +30,7 @@ pub fn byte_to_usize(x: u8) -> usize
 
 // A command's own byte and its operand bytes.
 pub fn command_size(operand_bytes: &[u8; 9], byte: u8) -> usize
-    requires { (operand_bytes.now ≡ operand_bytes) × (is_command byte ≡ true) }
+    requires { (operand_bytes.now ≡ operand_sizes) × (is_command byte ≡ true) }
     ensures { result ≡ command_size byte }
 {
     let at = byte_to_usize(byte);

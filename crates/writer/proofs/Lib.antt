@@ -5,6 +5,7 @@ pub mod Sizes
 pub mod WholeTape
 pub mod Complements
 pub mod Screening
+pub mod EmptyTable
 pub mod ReadBack
 pub mod Putting
 pub mod Cycles

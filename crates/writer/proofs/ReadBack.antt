@@ -12,7 +12,7 @@ use Rattle.hypermap.specs.Hypermap.{edge, vertex}
 use Rattle.table.specs.Refusals.{or_else, unless}
 use Rattle.table.specs.Commands.{Command, puts, takes_out, joins, cuts}
 use Rattle.tape.specs.Steps.{changes}
-use Rattle.tape.specs.Tapes.{operand_bytes, is_command, command_size, number_at, size_of, command_of, read_refusal}
+use Rattle.tape.specs.Tapes.{operand_sizes, is_command, command_size, number_at, size_of, command_of, read_refusal}
 use Rattle.tape.specs.Tapes.{rest_of}
 use Rattle.tape.specs.Tapes.{contents_of, after, bytes_of, tape_bytes}
 use Rattle.tape.proofs.Contents.{reading_law}
@@ -36,7 +36,7 @@ five : (n : ℕ) → leb 5 (suc (suc (suc (suc (suc n))))) ≡ true
 five n = le-leb 5 (suc (suc (suc (suc (suc n))))) (omega arith)
 
 starts : (c : Command) (rest : List ℕ) → Starts (bytes_of c ++ rest) c rest
-unfolding read_refusal command_of is_command size_of command_size operand_bytes number_at or_else unless
+unfolding read_refusal command_of is_command size_of command_size operand_sizes number_at or_else unless
 starts (puts x) rest =
     record { some = omega arith; whole = rw (three (length rest)); command = rw wide; behind = refl }
 starts (takes_out x) rest =

@@ -1,12 +1,16 @@
 // How the screen's answer lies in its buffer: ten numbers of four bytes, and then the rewritten tape.
-ghost use Rattle.std.specs.Prelude.{◌≡◌, ◌++◌, length, drop};
+ghost use Rattle.std.specs.Prelude.{◌≡◌, ◌++◌, ◌*◌, ◌≤◌, length, drop, replicate};
+ghost use Rattle.table.specs.Limits.{max_capacity, max_tape, screen_room, words_per_dart};
+ghost use Rattle.tape.specs.Runs.{run_of};
 ghost use Rattle.writer.specs.Inner.{HasRoom, Lays, NumbersRoom, ScreenRoom};
 ghost use Rattle.writer.specs.Screens.{four_bytes, twos_complement, numbers_bytes, screen_bytes, outcome_of};
 
 use crate::write;
 use parts::count;
 use parts::sign::magnitude;
+use table::limits::MAX_WORDS;
 use tape::Run;
+use tape::play;
 
 // Bytes of the ten numbers.
 const HEAD: usize = 40;
@@ -67,4 +71,18 @@ pub fn write_answer(table: &[u16], run: Run, out: &mut [u8])
     ];
     write_numbers(out, &numbers);
     write::write_tape(table, &mut out[HEAD..]);
+}
+
+// A run on an empty table of the greatest capacity, and its answer. Never inlined: the table makes a large frame, and
+// where a function returns early ahead of one, the machine code of this kit's LLVM loses the address of an argument.
+#[inline(never)]
+pub fn play_and_answer(tape: &[u8], out: &mut [u8])
+    requires short { length tape.now ≤ max_tape }
+    requires room { screen_room ≤ length out.old }
+    ensures { out.new ≡ screen_bytes (run_of (replicate (words_per_dart * max_capacity) 0) tape.now) ++
+        drop (length (screen_bytes (run_of (replicate (words_per_dart * max_capacity) 0) tape.now))) out.old }
+{
+    let mut table = [0u16; MAX_WORDS];
+    let run = play::play(&mut table, tape);
+    write_answer(&table, run, out);
 }

@@ -1,5 +1,5 @@
 use Rattle.std.proofs.Common.{refl, arith}
-use Rattle.tape.specs.Tapes.{operand_bytes}
+use Rattle.tape.specs.Tapes.{operand_sizes}
 use Rattle.tape.proofs.Playing.{whole_fits, rest_less, playing_end, playing_refused}
 use Rattle.tape.proofs.Playing.{playing_stopped, playing_on}
 use Rattle.journal.specs.Journaling.{journal_rule}
@@ -8,7 +8,7 @@ use Rattle.journal.proofs.Additions.{step_left}
 use Rattle.journal.proofs.run.run_tape.Goals as goal
 
 pub read-reading-requires : goal.read-reading-requires
-unfolding operand_bytes
+unfolding operand_sizes
 read-reading-requires c = refl
 
 pub returns-in_default : goal.returns-in_default

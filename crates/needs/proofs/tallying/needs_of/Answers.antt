@@ -1,6 +1,6 @@
 use Rattle.std.proofs.Common.{refl, arith}
 use mathlib.Core.Path.{◌∙◌}
-use Rattle.tape.specs.Tapes.{operand_bytes}
+use Rattle.tape.specs.Tapes.{operand_sizes}
 use Rattle.tape.proofs.Playing.{whole_fits, rest_less}
 use Rattle.needs.proofs.Tallies.{counting_first, counting_end, counting_refused, counting_on}
 use Rattle.needs.proofs.tallying.needs_of.Goals as goal
@@ -9,7 +9,7 @@ pub loop-rest-init : goal.loop-rest-init
 loop-rest-init c = counting_first _
 
 pub read-reading-requires : goal.read-reading-requires
-unfolding operand_bytes
+unfolding operand_sizes
 read-reading-requires c = refl
 
 pub returns-in_default : goal.returns-in_default

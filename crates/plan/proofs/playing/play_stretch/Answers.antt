@@ -1,5 +1,5 @@
 use Rattle.std.proofs.Common.{refl, arith}
-use Rattle.tape.specs.Tapes.{operand_bytes}
+use Rattle.tape.specs.Tapes.{operand_sizes}
 use Rattle.tape.proofs.Playing.{whole_fits, rest_less}
 use Rattle.plan.proofs.Rooms.{room_refused}
 use Rattle.plan.proofs.Stretching.{stretching_first, stretch_done, stretch_full, stretch_unread}
@@ -14,7 +14,7 @@ pub returns-then-rest-eq0 : goal.returns-then-rest-eq0
 returns-then-rest-eq0 c = stretch_done c.loop-at.invariant c.if-rest-eq0.true
 
 pub read-reading-requires : goal.read-reading-requires
-unfolding operand_bytes
+unfolding operand_sizes
 read-reading-requires c = refl
 
 -- a command that cannot be read

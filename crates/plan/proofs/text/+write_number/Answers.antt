@@ -9,14 +9,14 @@ write_byte-requires t c = rw (decimal_one _ c.if-n-lt10.true) at c.requires
 pub returns-then-n-lt10 : goal.returns-then-n-lt10
 returns-then-n-lt10 t c = rw (decimal_one _ c.if-n-lt10.true) c.write_byte.ensures
 
-pub write_number-at-requires : goal.write_number-at-requires
-write_number-at-requires t c =
+pub write_number-last-requires : goal.write_number-last-requires
+write_number-last-requires t c =
     (omega arith, room_first _ _ (rw (decimal_more _ c.if-n-lt10.false (omega arith)) at c.requires))
 
 pub write_byte-requires-2 : goal.write_byte-requires-2
 write_byte-requires-2 t c =
-    room_then (rw (decimal_more _ c.if-n-lt10.false (omega arith)) at c.requires) c.write_number-at.ensures
+    room_then (rw (decimal_more _ c.if-n-lt10.false (omega arith)) at c.requires) c.write_number-last.ensures
 
 pub returns : goal.returns
 returns t c =
-    rw (decimal_more _ c.if-n-lt10.false (omega arith)) (lays_then c.write_number-at.ensures c.write_byte-2.ensures)
+    rw (decimal_more _ c.if-n-lt10.false (omega arith)) (lays_then c.write_number-last.ensures c.write_byte-2.ensures)

@@ -1,6 +1,6 @@
 use Rattle.std.proofs.Common.{arith}
 use mathlib.Core.Path.{sym, ◌∙◌}
-use Rattle.tape.specs.Tapes.{operand_bytes, command_size, command_of}
+use Rattle.tape.specs.Tapes.{operand_sizes, command_size, command_of}
 use Rattle.tape.proofs.Decoding.{is_known, plain_sized, whole_refusal, some_byte, unknown_reads}
 use Rattle.tape.proofs.decode.read.Goals as goal
 
@@ -8,7 +8,7 @@ pub command_size-requires : goal.command_size-requires
 command_size-requires c = (c.requires, is_known 7 (omega arith) (omega arith))
 
 pub returns-in-7 : goal.returns-in-7
-unfolding command_of command_size operand_bytes
+unfolding command_of command_size operand_sizes
 returns-in-7 c =
     let bs = c.args.tape.now in
     let e = sym c.in-7.is ∙ c.byte_at.ensures in

@@ -1,6 +1,6 @@
 use Rattle.std.proofs.Common.{refl, ap, arith}
 use mathlib.Core.Path.{sym}
-use Rattle.tape.specs.Tapes.{operand_bytes}
+use Rattle.tape.specs.Tapes.{operand_sizes}
 use Rattle.tape.specs.Steps.{step_rule}
 use Rattle.tape.specs.Runs.{told_of}
 use Rattle.tape.proofs.Running.{roomy_on}
@@ -8,7 +8,7 @@ use Rattle.tape.proofs.Playing.{whole_fits, rest_less, playing_end, playing_refu
 use Rattle.tape.proofs.play.play.Goals as goal
 
 pub read-reading-requires : goal.read-reading-requires
-unfolding operand_bytes
+unfolding operand_sizes
 read-reading-requires c = refl
 
 pub returns-in_default : goal.returns-in_default
