@@ -9,8 +9,7 @@ use crate::write;
 use parts::count;
 use parts::sign::magnitude;
 use table::limits::MAX_WORDS;
-use tape::Run;
-use tape::play;
+use tape::{Run, play};
 
 // Bytes of the ten numbers.
 const HEAD: usize = 40;
