@@ -1,5 +1,6 @@
 -- The screen's call: what it answers and leaves. Assumes nothing.
-use Rattle.std.proofs.Common.{◌≡◌, refl, List, ◌++◌, ℕ, ◌*◌, ◌≤◌, ◌<◌, length, drop, replicate, le-leb, lt-leb}
+use Rattle.std.proofs.Common.{◌≡◌, refl, List, ◌++◌, ℕ, ◌*◌, ◌≤◌, ◌<◌, length, drop, replicate, le-leb}
+use borrow.Author.Tests.{lt-leb}
 use Rattle.table.specs.Refusals.{wrong_size, short_room, or_else, unless}
 use Rattle.table.specs.Limits.{words_per_dart, max_capacity, max_tape, screen_room}
 use Rattle.tape.specs.Runs.{run_of}
