@@ -16,9 +16,12 @@ needed() {
 library=crates/c_calls/out/libc_calls.a
 plan=crates/plan/out/plan
 
-# older FILE: whether FILE is missing or older than what it is made of
+# older FILE: whether FILE is missing or older than what it is made of. A folder inside a crate is newer where a file of
+# it was taken away; the crate's own is newer where rt made its out/.
 older() {
-    [ ! -e "$1" ] || [ -n "$(find crates crates.txt -path '*/out' -prune -o -newer "$1" -type f -print -quit)" ]
+    [ ! -e "$1" ] ||
+        [ -n "$(find crates crates.txt -path '*/out' -prune -o -newer "$1" \( -type f -o -path 'crates/*/*' \) \
+            -print -quit)" ]
 }
 
 # The kernel for C, proved and built where that is needed.
