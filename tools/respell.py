@@ -1,7 +1,7 @@
 #!/usr/bin/env python3
 """Brings this repository's own names to Rattle's spelling: words in snake case, types and modules in camel case.
 
-usage: python3 tools/respell.py     at the top of the repository, once, after the toolkit's port.py
+usage: python3 tools/respell.py     at the top of the repository, once, after the port.py of the kit
 
 It goes by words. A word that begins with a small letter and has a capital is one of this repository's own: the library
 has none, and neither has Rust. Such a word is turned in each .rt and .antt file, in the must-fail edits, and in the
