@@ -1,5 +1,5 @@
 -- The entries of a ring's cuts, written one after the other. Assumes nothing.
-use mathlib.Core.Path.{◌≡◌, refl, sym, ◌∙◌}
+use mathlib.Core.Path.{◌≡◌, sym, ◌∙◌}
 use mathlib.Core.List.{List}
 use Prim.Native.Nat.{ℕ, suc, ◌+◌, ◌*◌, ◌≤◌, ◌<◌}
 use native.Mathlib.Omega.{arith}
@@ -18,10 +18,6 @@ pub record CutsWritten (j : Journal) (used : ℕ) (ws : List ℕ) (l : Journal) 
   pub count : n ≡ used + passed
   pub size : length l ≡ length j
   pub rest : with_entries j used (cuts_of (links_of ws)) ≡ with_entries l n (cuts_of (links_of (drop k ws)))
-
-pub none_written : (j : Journal) (used : ℕ) (ws : List ℕ) → CutsWritten j used ws j used 0
-none_written j used ws =
-    record { at = omega arith; passed = 0; words = omega arith; count = omega arith; size = refl; rest = refl }
 
 module _ (j : Journal) (used : ℕ) (ws : List ℕ) (l : Journal) (n k : ℕ) (i : CutsWritten j used ws l n k) where
   pub all_written : length ws ≤ k + 1 → l ≡ with_entries j used (cuts_of (links_of ws))

@@ -16,10 +16,10 @@ use Rattle.table.specs.Runs.{run_by, rule_leaves}
 use Rattle.table.specs.Inner.{WithinCapacity, Accepts}
 use Rattle.table.proofs.Stages.{fitting}
 use Rattle.table.proofs.Commands.{keeps_hypermap_law}
-use Rattle.table.proofs.Runs.{run_law, run_stops, run_goes_on, later, later_none, later_one, later_stopped}
+use Rattle.table.proofs.Runs.{run_law, run_stops, run_goes_on, later, later_one, later_stopped}
 use Rattle.journal.specs.Entries.{Journal, Entry, is_change, command_in, entry_at}
 use Rattle.journal.specs.Undoing.{undo_refusal, undo_on, undo_rule, latest_first, undoing}
-use Rattle.journal.specs.Inner.{entry, Undoable}
+use Rattle.journal.specs.Inner.{entry}
 
 -- THE BYTE, read from a word
 module _ (word r : ℕ) (e : r ≡ cond (ltb word 256) word 0) where
@@ -99,18 +99,6 @@ pub record Going (w₀ : Table) (j : Journal) (used to : ℕ) (w : Table) (n : �
   pub table : WithinCapacity w
   pub size : length w ≡ length w₀
   pub same : undoing w₀ j to (used - to) ≡ later (used - n) (undoing w j to (n - to))
-
-pub going_first : (w : Table) (j : Journal) (used to : ℕ) → Undoable w j used to → Going w j used to w used
-going_first w j used to p =
-    let z : used - used ≡ 0 = omega arith in
-    record {
-      low = p.low;
-      high = omega arith;
-      words = p.words;
-      table = p.table;
-      size = refl;
-      same = rw z (later_none (undoing w j to (used - to)));
-    }
 
 -- the entry that comes next, as code reads it
 pub entry_read :

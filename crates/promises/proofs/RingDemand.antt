@@ -13,10 +13,7 @@ use Rattle.hypermap.proofs.Basics.Bools.{and_left, and_right}
 use Rattle.hypermap.proofs.Basics.Lists.{Mem}
 use Rattle.hypermap.proofs.Laws.ComponentGenus.{genus_below}
 use Rattle.hypermap.proofs.Laws.Jordan.{break_darts}
-use Rattle.table.specs.Refusals.{or_else}
 use Rattle.table.specs.Layout.{Table, holds_hypermap, hypermap_of}
-use Rattle.table.specs.Commands.{leaves}
-use Rattle.table.proofs.Stages.{passed}
 use Rattle.table.proofs.Holding.{mem_present, table_hypermap}
 use Rattle.parts.specs.Sharing.{is_same}
 use Rattle.parts.specs.declared.Part.TheVariants.{Component}
@@ -26,7 +23,7 @@ use Rattle.rings.specs.Laws.{IsCut, are_darts}
 use Rattle.rings.proofs.Conditions.{some_links, conditions_law}
 use Rattle.rings.proofs.Parting.{accepted_darts, accepted_cut, parting_law, planar_parting_law}
 use Rattle.soundness.specs.Soundness.{table_refusal}
-use Rattle.kernel.specs.Calls.{totals_of, report_of, ring_call_refusal, ring_call_leaves, question_refusal}
+use Rattle.kernel.specs.Calls.{totals_of, report_of, ring_call_refusal, question_refusal}
 use Rattle.kernel.specs.Calls.{component_report_of}
 use Rattle.promises.specs.ThirdDemand.{IsPartedByReports, ComponentRingDemand, IsRingCut, RingDemand}
 use Rattle.kernel.proofs.Answering.{given_report}

@@ -9,7 +9,7 @@ use borrow.Author.Tests.{eq-eqb, ne_eqb}
 use borrow.Author.Rules.{part_to_end}
 use Rattle.table.specs.Commands.{leaves}
 use Rattle.table.specs.Runs.{Rule, rule_leaves, Outcome, stopped, one_more, run_by}
-use Rattle.table.proofs.Runs.{run_stops, run_goes_on, later, later_none, later_one, later_stopped}
+use Rattle.table.proofs.Runs.{run_stops, run_goes_on, later, later_one, later_stopped}
 use Rattle.tape.specs.Steps.{TapeCommand}
 use Rattle.tape.specs.Tapes.{Contents, command_of, read_refusal, rest_of}
 use Rattle.tape.specs.Runs.{tape_run}
@@ -64,10 +64,6 @@ pub record Playing {S : Type 0} (r : Rule S TapeCommand) (P : S → Type 0) (s�
 -- it ends by n after k commands, with s
 abbrev pub Ends : {S : Type 0} → Outcome S → (n k : ℕ) → S → Type 0
 Ends o n k s = o ≡ record { number = n; accepted = k; state = s }
-
-pub playing_first :
-    {S : Type 0} (r : Rule S TapeCommand) (P : S → Type 0) (s : S) (tape : List ℕ) → P s → Playing r P s tape s tape 0
-playing_first r P s tape p = record { few = omega arith; keeps = p; same = later_none (tape_run r s tape) }
 
 module _
     {S : Type 0} (r : Rule S TapeCommand) (P : S → Type 0) (s₀ : S) (tape : List ℕ) (s : S) (rest : List ℕ) (k : ℕ)
