@@ -1,6 +1,6 @@
 // The words of a table, read and written one at a time. A word that names a dart is a `u16`; a number from outside has
 // 32 bits, and becomes a word only where it is known to be small enough.
-ghost use Rattle.std.specs.Prelude.{◌≡◌, ◌<◌, ◌≤◌, nat_lt};
+ghost use Rattle.std.specs.Prelude.{◌≡◌, ◌+◌, ◌<◌, ◌≤◌, nat_lt};
 ghost use Rattle.table.specs.Limits.{words_per_dart, edge_next, max_word};
 ghost use Rattle.table.specs.Layout.{place, word_at, capacity, is_number, is_present, next_word, back_word};
 ghost use Rattle.table.specs.Commands.{with_word};
@@ -36,6 +36,14 @@ pub fn capacity_of(table: &[u16]) -> usize
     ensures { result ≡ capacity table.now }
 {
     table.len() / WORDS_PER_DART
+}
+
+// One more than the capacity: where a pass over the numbers of a table ends.
+pub fn numbers_end(table: &[u16]) -> u16
+    requires { capacity table.now < max_word }
+    ensures { result ≡ capacity table.now + 1 }
+{
+    (capacity_of(table) + 1) as u16
 }
 
 // Where word i of dart x stands.
