@@ -13,10 +13,9 @@ fn cut_along(table: &mut [u16], ring: &[u16])
     requires { Listed table.old ring.now }
     ensures { table.new ≡ cut_along (links_of ring.now) table.old }
 {
-    let mut k = 0;
-    while k + 1 < ring.len() {
-        store::swap(table, Dimension::Edge, ring[k], ring[k + 1]);
-        k += 2;
+    let (links, _) = ring.as_chunks::<2>();
+    for &[first, second] in links {
+        store::swap(table, Dimension::Edge, first, second);
     }
 }
 

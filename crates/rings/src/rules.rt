@@ -2,8 +2,8 @@
 ghost use Rattle.std.specs.Prelude.{◌≡◌};
 ghost use Rattle.table.specs.Layout.{hypermap_of};
 ghost use Rattle.table.specs.Inner.{WithinCapacity};
-ghost use Rattle.rings.specs.Rings.{links_of, condition_refusal, ring_refusal};
-ghost use Rattle.rings.specs.Inner.{ListedMarking};
+ghost use Rattle.rings.specs.Rings.{condition_refusal, ring_refusal};
+ghost use Rattle.rings.specs.Inner.{links_in, LinksMarking};
 
 use crate::apart::firsts_apart;
 use crate::list;
@@ -13,23 +13,23 @@ use table::limits::MAX_CAPACITY;
 use table::{Orbit, refusals, words};
 
 // The conditions on double-links of darts.
-fn condition_refusal(table: &[u16], ring: &[u16], marks: &mut [u16]) -> u8
-    requires { ListedMarking table.now ring.now marks.old }
-    ensures { result ≡ condition_refusal (hypermap_of table.now) (links_of ring.now) }
+fn condition_refusal(table: &[u16], links: &[[u16; 2]], marks: &mut [u16]) -> u8
+    requires { LinksMarking table.now (links_in links.now) marks.old }
+    ensures { result ≡ condition_refusal (hypermap_of table.now) (links_in links.now) }
 {
-    if !pairs_together(table, ring, marks) {
+    if !pairs_together(table, links, marks) {
         return refusals::APART;
     }
-    if !list::pairs_differ(ring) {
+    if !list::pairs_differ(links) {
         return refusals::SAME_TAB;
     }
-    if !firsts_apart(table, Orbit::Edge, ring, marks) {
+    if !firsts_apart(table, Orbit::Edge, links, marks) {
         return refusals::TIE_TWICE;
     }
-    if !firsts_apart(table, Orbit::Face, ring, marks) {
+    if !firsts_apart(table, Orbit::Face, links, marks) {
         return refusals::GAP_TWICE;
     }
-    refusals::unless_so(path_closes(table, ring, marks), refusals::PATH_BROKEN)
+    refusals::unless_so(path_closes(table, links, marks), refusals::PATH_BROKEN)
 }
 
 pub fn ring_refusal(table: &[u16], ring: &[u16]) -> u8
@@ -43,7 +43,8 @@ pub fn ring_refusal(table: &[u16], ring: &[u16]) -> u8
     if refusal != 0 {
         return refusal;
     }
+    let (links, _) = ring.as_chunks::<2>();
     let n = words::capacity_of(table);
     let mut marks = [0u16; MAX_CAPACITY];
-    condition_refusal(table, ring, &mut marks[..n])
+    condition_refusal(table, links, &mut marks[..n])
 }
