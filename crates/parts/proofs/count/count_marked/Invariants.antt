@@ -1,11 +1,6 @@
-use Rattle.std.proofs.Common.{◌+◌, ◌-◌}
-use Rattle.table.specs.Layout.{capacity}
-use Rattle.parts.proofs.Counting.{Counting}
-use Rattle.parts.proofs.MarkedSets.{in_set}
+use Rattle.std.proofs.Common.{◌≡◌, eqb, take}
+use Rattle.std.specs.List.{count_by}
 use Rattle.parts.proofs.count.count_marked.Given as goal
 
-abbrev pub invariant-loop-k : goal.invariant-loop-k
-invariant-loop-k l = Counting (capacity l.table) (in_set l.table l.marks l.value) (l.k + 1) l.count
-
-abbrev pub decreases-loop-k : goal.decreases-loop-k
-decreases-loop-k l = l.n - l.k
+abbrev pub invariant-loop-mark : goal.invariant-loop-mark
+invariant-loop-mark l = l.count ≡ count_by (λ u. eqb u l.value) (take l.mark-index l.mark-items)
