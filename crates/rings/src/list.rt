@@ -16,7 +16,7 @@ pub fn is_list(ring: &[u16]) -> bool
     (0 < ring.len()) & (ring.len() % 2 == 0) & (ring.len() <= MAX_RING)
 }
 
-// 3 for a word off the table, 4 for one that is no dart. By loops: `all` takes a fifteenth longer over a whole ring.
+// 3 for a word off the table, 4 for one that is no dart.
 pub fn judge_words(table: &[u16], ring: &[u16]) -> Result<(), Refusal>
     ensures { reply result ≡ presence_refusal table.now ring.now }
 {
@@ -37,5 +37,10 @@ pub fn judge_words(table: &[u16], ring: &[u16]) -> Result<(), Refusal>
 pub fn pairs_differ(links: &[[u16; 2]]) -> bool
     ensures { result ≡ pairs_differ (links_in links.now) }
 {
-    links.iter().all(|[first, second]| first != second)
+    for [first, second] in links {
+        if first == second {
+            return false;
+        }
+    }
+    true
 }
