@@ -1,5 +1,5 @@
 -- What the inner functions are lent and answer. Assumes nothing: these are definitions.
-use Rattle.std.specs.Prelude.{◌≡◌, cond, List, [], ◌∷◌, ◌++◌, ℕ, ◌+◌, ◌*◌, ◌≤◌, leb, length, set, drop}
+use Rattle.std.specs.Prelude.{◌≡◌, cond, List, [], ◌∷◌, ◌++◌, ℕ, ◌+◌, ◌≤◌, leb, length, set, drop}
 use Rattle.hypermap.specs.Hypermap.{of}
 use Rattle.hypermap.specs.Hypermap as theory
 use Rattle.table.specs.Limits.{screen_room}
@@ -49,11 +49,7 @@ written_of bs o =
 unfoldable pub written_leaves : (tape out : List ℕ) → List ℕ
 written_leaves bs o = cond (leb (length bs) (length o)) (bs ++ drop (length bs) o) o
 
--- THE SCREEN. Room for at most ten numbers of four bytes, and for its whole answer
-pub record NumbersRoom (numbers out : List ℕ) : Type 0 where
-  pub few : length numbers ≤ 10
-  pub room : 4 * length numbers ≤ length out
-
+-- THE SCREEN. Room for its whole answer
 pub record ScreenRoom (w : Table) (out : List ℕ) : Type 0 where
   pub table : WithinCapacity w
   pub room : screen_room ≤ length out
