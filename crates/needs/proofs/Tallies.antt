@@ -7,6 +7,7 @@ use native.Mathlib.Omega.{arith}
 use lib.ListN.{length, take, drop}
 use borrow.Author.Tests.{eq-eqb, ne_eqb}
 use borrow.Author.Rules.{part_to_end}
+use Rattle.hypermap.specs.Hypermap.{Dimension}
 use Rattle.table.specs.Limits.{words_per_change}
 use Rattle.table.specs.Commands.{puts, takes_out, joins, cuts}
 use Rattle.tape.specs.Steps.{TapeCommand, changes, reports, cuts_ring}
@@ -18,18 +19,28 @@ use Rattle.tape.specs.declared.Reading.TheVariants.{Whole, Refused}
 use Rattle.tape.proofs.Contents.{rest_shorter, reading_law}
 use Rattle.needs.specs.Amounts.{named_by, named_in, larger, greatest, puts_by, take_outs_by, peak_of, changes_by}
 use Rattle.needs.specs.Amounts.{total, refused_needs, needs_of, needed_by}
-use Rattle.needs.specs.Inner.{peak_after, below_after, added}
+use Rattle.needs.specs.Inner.{peak_after, below_after, added, one_more}
 use Rattle.needs.specs.declared.Needs.{Needs}
 use Rattle.needs.specs.declared.Tally.{Tally}
 use Rattle.needs.proofs.Greatest.{larger_zero, zero_larger, larger_assoc, greatest_append}
 
 -- ONE COMMAND, by the parts that are counted of it
 pub added_by :
-    (t : Tally) (c : TapeCommand) (g m p b n : ℕ) → g ≡ greatest (named_by c) → m ≡ larger t.capacity g →
-    p ≡ peak_after t.peak t.below c → b ≡ below_after t.below c → n ≡ changes_by c →
-    ◌≡◌ {A = Tally}
-    (record { capacity = m; commands = t.commands + 1; peak = p; below = b; changes = t.changes + n }) (added t c)
-added_by t c g m p b n eg em ep eb en = rw (em, eg, ep, eb, en)
+    (t : Tally) (c : TapeCommand) (g p b n : ℕ) → g ≡ greatest (named_by c) → p ≡ peak_after t.peak t.below c →
+    b ≡ below_after t.below c → n ≡ changes_by c → record (one_more t g n) { peak = p; below = b } ≡ added t c
+added_by t c g p b n eg ep eb en = rw (eg, ep, eb, en)
+
+-- a join or a cut of a and b
+pub added_swap :
+    (t : Tally) (k : Dimension) (a b : ℕ) →
+    (one_more t (larger a b) 1 ≡ added t (changes (joins k a b))) ×
+    (one_more t (larger a b) 1 ≡ added t (changes (cuts k a b)))
+unfolding greatest
+added_swap t k a b =
+    let e = sym (ap (larger a) (larger_zero b)) in (
+      added_by t (changes (joins k a b)) _ _ _ 1 e (omega arith) (omega arith) refl,
+      added_by t (changes (cuts k a b)) _ _ _ 1 e (omega arith) (omega arith) refl,
+    )
 
 -- ALL COMMANDS: what is counted of cs behind t, in closed form
 abbrev counted : Tally → List TapeCommand → Needs
@@ -70,7 +81,7 @@ counted_on t c cs =
     omega arith in
     rw (g, n, p, m)
 
-abbrev nothing : Tally
+abbrev pub nothing : Tally
 nothing = record { capacity = 0; commands = 0; peak = 0; below = 0; changes = 0 }
 
 counted_first : (cs : List TapeCommand) → needs_of cs ≡ counted nothing cs

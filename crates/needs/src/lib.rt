@@ -8,7 +8,7 @@ pub mod tallying;
 
 // What is counted of the commands before: the greatest number of a dart, the commands, the peak of puts less take-outs,
 // how far that difference lies below its peak now, and the changes.
-#[derive(Clone, Copy)]
+#[derive(Clone, Copy, Default)]
 pub struct Tally {
     pub capacity: u32,
     pub commands: u32,
@@ -19,7 +19,7 @@ pub struct Tally {
 
 // What a tape needs: 0 and the least capacity, the commands, the peak and the words changed, or a refusal and zeros.
 #[repr(C)]
-#[derive(Clone, Copy)]
+#[derive(Clone, Copy, Default)]
 pub struct Needs {
     pub number: u8,
     pub capacity: u32,
