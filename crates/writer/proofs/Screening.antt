@@ -5,21 +5,25 @@ use Prim.Native.Nat.{ℕ, ◌+◌, ◌*◌, ◌-◌, ◌≤◌}
 use native.Mathlib.Omega.{arith}
 use lib.IntN.{ℤ, pos, negsuc}
 use lib.ListN.{length, take, drop, length-append, length-drop, length-map}
-use lib.Seq.{take-length, drop-length, take_at, drop_at, drop-drop}
+use lib.Seq.{take-length, drop-length, take_all, take_at, drop_at, drop-drop}
 use mir.Syntax.{w32}
 use borrow.Author.Tests.{le-leb}
 use Rattle.std.specs.Array.{IsMapOf}
 use Rattle.std.specs.Fn.{Mut, Called}
 use Rattle.std.specs.Int.{cast_unsigned}
 use Rattle.std.specs.List.{flat_map}
+use Rattle.std.specs.Prelude.{Result, Ok, Err}
+use Rattle.std.specs.Result.{IsOk}
 use Rattle.std.proofs.lemmas.List.{same_lists, get_or-map}
 use Rattle.table.specs.Limits.{screen_room, longest_canonical}
 use Rattle.table.specs.Layout.{Table, hypermap_of}
+use Rattle.table.specs.declared.refusals.Refusal.{Refusal}
+use Rattle.table.proofs.Replying.{number_positive}
 use Rattle.parts.specs.Counts.{counts_of}
 use Rattle.parts.specs.declared.Counts.{Counts}
 use Rattle.tape.specs.declared.Run.{Run}
 use Rattle.writer.specs.Canonical.{tape_of}
-use Rattle.writer.specs.Inner.{Lays, written_leaves}
+use Rattle.writer.specs.Inner.{Lays, written_in, written_of, written_leaves}
 use Rattle.writer.specs.Screens.{screen_bytes, four_bytes, twos_complement, numbers_bytes, ten_numbers}
 use Rattle.writer.specs.Screens.{outcome_of}
 use Rattle.writer.proofs.Laying.{lays_whole}
@@ -81,3 +85,18 @@ unfolding screen_bytes
 answer_laid w r c z hs o p t i e l m g f v =
     let ns = ten_numbers r.number r.accepted (counts_of (hypermap_of w)) in
     behind (numbers_bytes ns) (tape_of w) o p t (omega (arith, numbers_length ns)) (rw (g, e, i) at f) v
+
+-- the tape has room there
+written_ok :
+    (bs o : List ℕ) (r : Result ℕ Refusal) → length bs ≤ length o → written_in r ≡ written_of bs o → IsOk r
+unfolding written_of
+written_ok bs o (Ok n) l e = refl
+written_ok bs o (Err r) l e =
+    absurd (number_positive r (ap (λ w. w.number) e ∙ rw (le-leb (length bs) (length o) l)))
+
+pub tape_written :
+    (bs o p : List ℕ) (n : ℕ) (r : Result ℕ Refusal) → length bs + n ≤ length o → length p ≡ length o →
+    written_in r ≡ written_of bs (take (length p - n) (drop n p)) → IsOk r
+tape_written bs o p n r l e w =
+    let k = take_all (length p - n) (drop n p) (omega (arith, length-drop n p)) in
+    written_ok bs (drop n p) r (omega (arith, length-drop n p)) (rw k at w)

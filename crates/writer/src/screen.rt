@@ -36,7 +36,7 @@ pub fn write_answer(table: &[u16], run: Run, out: &mut [u8])
     ];
     let head = numbers_in_bytes(numbers);
     let end = write::write_bytes(out, 0, head.as_flattened());
-    write::write_tape(table, &mut out[end..]);
+    write::write_tape(table, &mut out[end..]).unwrap();
 }
 
 // A run on an empty table of the greatest capacity, and its answer. Never inlined: the table makes a large frame, and

@@ -7,14 +7,14 @@ ghost use Rattle.table.specs.Commands.{puts, joins};
 ghost use Rattle.table.specs.Inner.{dimension_of, WithinCapacity};
 ghost use Rattle.tape.specs.Tapes.{bytes_of, tape_bytes};
 ghost use Rattle.writer.specs.Canonical.{orbit_joins, joins_of, puts_of, tape_of};
-ghost use Rattle.writer.specs.Inner.{HasRoom, Lays, OrbitJoinsRoom, JoinsRoom, WriterMarks, written_of};
+ghost use Rattle.writer.specs.Inner.{HasRoom, Lays, OrbitJoinsRoom, JoinsRoom, WriterMarks, written_in, written_of};
 ghost use Rattle.writer.specs.Inner.{written_leaves};
 
-use crate::Written;
 use parts::count;
 use parts::marks::{mark_of, mark_orbits};
 use table::limits::{EDGE_NEXT, MAX_CAPACITY};
-use table::{Dimension, Orbit, refusals, walk, words};
+use table::refusals::Refusal;
+use table::{Dimension, Orbit, walk, words};
 use tape::operands;
 
 // Bytes of a put and of a join.
@@ -117,9 +117,9 @@ fn write_marked(
     edge_marks: &mut [u16],
     vertex_marks: &mut [u16],
     out: &mut [u8],
-) -> Written
+) -> Result<u32, Refusal>
     requires { WriterMarks table.now edge_marks.old vertex_marks.old }
-    ensures value { result ≡ written_of (tape_of table.now) out.old }
+    ensures value { written_in result ≡ written_of (tape_of table.now) out.old }
     ensures out { out.new ≡ written_leaves (tape_of table.now) out.old }
 {
     let darts = count::count_darts(table);
@@ -127,23 +127,18 @@ fn write_marked(
     let vertices = mark_orbits(table, Orbit::Vertex, vertex_marks);
     let size = tape_size(darts, edges, vertices);
     if out.len() < size as usize {
-        return Written {
-            number: refusals::SHORT_ROOM,
-            count: 0,
-        };
+        return Err(Refusal::ShortRoom);
     }
     let puts = write_puts(table, out);
     let joins = write_joins(table, Dimension::Edge, edge_marks, out, puts);
     write_joins(table, Dimension::Vertex, vertex_marks, out, joins);
-    Written {
-        number: 0,
-        count: size,
-    }
+    Ok(size)
 }
 
-pub fn write_tape(table: &[u16], out: &mut [u8]) -> Written
+// The bytes written.
+pub fn write_tape(table: &[u16], out: &mut [u8]) -> Result<u32, Refusal>
     requires { WithinCapacity table.now }
-    ensures value { result ≡ written_of (tape_of table.now) out.old }
+    ensures value { written_in result ≡ written_of (tape_of table.now) out.old }
     ensures out { out.new ≡ written_leaves (tape_of table.now) out.old }
 {
     let n = words::capacity_of(table);
