@@ -36,6 +36,10 @@ pub stops :
 stops r d n m q e =
     let p = err_from_is_err_and r q in rw (p.1, p.2) (refused_first n m (number d) e (number_positive d))
 
+-- or it replies as it stopped
+pub exits : {A : Type 0} (r : Result A Refusal) (d : Refusal) → IsErrAnd r (λ y. y ≡ d) → reply r ≡ number d
+exits r d q = let p = err_from_is_err_and r q in rw (p.1, p.2)
+
 -- past the `?` the second stage replies
 pub goes_on : (n m k : ℕ) → 0 ≡ n → k ≡ m → k ≡ or_else n m
 goes_on n m k e q = refused_second n m 0 k e refl q
