@@ -5,13 +5,15 @@ ghost use Rattle.table.specs.Inner.{command_for};
 ghost use Rattle.tape.specs.Steps.{changes};
 ghost use Rattle.tape.specs.Tapes.{contents_of};
 ghost use Rattle.tape.specs.Inner.{meaning};
-ghost use Rattle.needs.specs.Amounts.{needed_by, refused_needs};
+ghost use Rattle.needs.specs.Amounts.{needed_by};
+ghost use Rattle.needs.specs.Replies.{needs_in};
 ghost use Rattle.needs.specs.Inner.{added, one_more, Countable};
 
-use crate::{Needs, Tally, named};
+use crate::{Amounts, Tally, named};
 use table::Change;
 use table::limits::WORDS_PER_CHANGE;
-use tape::{Instruction, Reading, decode, operands};
+use table::refusals::Refusal;
+use tape::{Instruction, decode};
 
 // ONE MORE COMMAND
 
@@ -67,7 +69,7 @@ impl Tally {
             Instruction::Report => self.one_more(0, 0),
             Instruction::RingCut(n) => {
                 let greatest = named::greatest_number(tape, 2 * usize::from(n));
-                self.one_more(greatest, u32::from(n))
+                self.one_more(greatest.into(), n.into())
             }
         }
     }
@@ -75,35 +77,21 @@ impl Tally {
 
 // THE WHOLE TAPE
 
-pub fn refused(refusal: u8) -> Needs
-    ensures { result ≡ refused_needs refusal }
-{
-    Needs {
-        number: refusal,
-        ..Needs::default()
-    }
-}
-
-pub fn needs_of(tape: &[u8]) -> Needs
+pub fn needs_of(tape: &[u8]) -> Result<Amounts, Refusal>
     requires { length tape.now ≤ max_tape }
-    ensures { result ≡ needed_by (contents_of tape.now) }
+    ensures { needs_in result ≡ needed_by (contents_of tape.now) }
 {
-    let operand_bytes = operands::OPERAND_BYTES;
     let mut rest = tape;
     let mut tally = Tally::default();
     while !rest.is_empty() {
-        let reading = decode::read(rest, &operand_bytes);
-        let Reading::Whole(instruction, size) = reading else {
-            return refused(decode::refusal_in(reading));
-        };
+        let (instruction, size) = decode::read(rest)?;
         tally = tally.add(rest, instruction);
         rest = &rest[size..];
     }
-    Needs {
-        number: 0,
+    Ok(Amounts {
         capacity: tally.capacity,
         commands: tally.commands,
         peak: tally.peak,
         words: WORDS_PER_CHANGE * tally.changes,
-    }
+    })
 }

@@ -18,5 +18,6 @@ returns-in-RingCut-clause-value c =
     let bs = c.args.tape.now in
     rw (c.in-RingCut.is, c.one_more-in-RingCut.ensures)
     (added_by c.args.self (cuts_ring (numbers_from (2 * n) 2 bs)) _ _ _ _
-    (c.greatest_number-greatest.ensures ∙ ap (λ k. greatest (numbers_from (2 * k) 2 bs)) c.from.ensures) (omega arith)
-    (omega arith) (c.from-in-RingCut.ensures ∙ sym (links_numbered n 2 bs)))
+    (c.into.ensures ∙ c.greatest_number-greatest.ensures ∙
+    ap (λ k. greatest (numbers_from (2 * k) 2 bs)) c.from.ensures) (omega arith) (omega arith)
+    (c.into-in-RingCut.ensures ∙ sym (links_numbered n 2 bs)))

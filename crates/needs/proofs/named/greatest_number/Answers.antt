@@ -7,7 +7,7 @@ loop-k-init c = seeking_first _ _
 
 pub loop-k-preserved : goal.loop-k-preserved
 loop-k-preserved c =
-    seeking_on _ _ _ _ c.loop-k.invariant _ _ c.loop-k-test.true c.number_or_zero.ensures.value
+    seeking_on _ _ _ _ c.loop-k.invariant _ _ c.loop-k-test.true c.number_at.ensures
     (c.max-found.ensures ∙ max_larger _ _)
 
 pub returns : goal.returns
