@@ -49,6 +49,6 @@ pub fn play_and_answer(tape: &[u8], out: &mut [u8])
         drop (length (screen_bytes (run_of (replicate (words_per_dart * max_capacity) 0) tape.now))) out.old }
 {
     let mut table = [0u16; MAX_WORDS];
-    let run = play::play(&mut table, tape);
+    let run = Run::from(play::play(&mut table, tape));
     write_answer(&table, run, out);
 }

@@ -15,7 +15,7 @@ use parts::marks::{mark_of, mark_orbits};
 use table::limits::{EDGE_NEXT, MAX_CAPACITY};
 use table::refusals::Refusal;
 use table::{Dimension, Orbit, walk, words};
-use tape::operands;
+use tape::opcode::Opcode;
 
 // Bytes of a put and of a join.
 const PUT_SIZE: usize = 3;
@@ -28,19 +28,19 @@ fn put_bytes(x: u16) -> [u8; PUT_SIZE]
     ensures { result ≡ bytes_of (puts x) }
 {
     let [low, high] = x.to_le_bytes();
-    [operands::PUT, low, high]
+    [Opcode::Put.into(), low, high]
 }
 
 fn join_bytes(d: Dimension, a: u16, b: u16) -> [u8; JOIN_SIZE]
     ensures { result ≡ bytes_of (joins (dimension_of d) a b) }
 {
-    let byte = match d {
-        Dimension::Edge => operands::EDGE_JOIN,
-        Dimension::Vertex => operands::VERTEX_JOIN,
+    let opcode = match d {
+        Dimension::Edge => Opcode::EdgeJoin,
+        Dimension::Vertex => Opcode::VertexJoin,
     };
     let [a_low, a_high] = a.to_le_bytes();
     let [b_low, b_high] = b.to_le_bytes();
-    [byte, a_low, a_high, b_low, b_high]
+    [opcode.into(), a_low, a_high, b_low, b_high]
 }
 
 // Bytes into a buffer, from a place on; answers the place after them.
