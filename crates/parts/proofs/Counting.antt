@@ -1,13 +1,14 @@
 -- Adding up and counting in one pass over the numbers: what was met and what is still to come make up the whole.
 -- Assumes nothing.
-use mathlib.Core.Path.{◌≡◌, refl, ◌∙◌}
+use mathlib.Core.Path.{◌≡◌, refl, ap, ◌∙◌}
 use mathlib.Core.Bool.{Bool, true, false, ◌&&◌, cond}
 use mathlib.Core.List.{List, [], ◌∷◌}
-use Prim.Native.Nat.{ℕ, suc, ◌+◌, ◌-◌, ◌≤◌, ◌<◌}
+use Prim.Native.Nat.{ℕ, zero, suc, ◌+◌, ◌-◌, ◌≤◌, ◌<◌}
 use native.Mathlib.Numerals.{add-one}
 use native.Mathlib.Omega.{arith}
-use lib.ListN.{length, take, replicate}
-use lib.Seq.{length-take-le}
+use lib.ListN.{length, get_or, take, drop, replicate}
+use lib.Seq.{length-take-le, drop-cons}
+use Rattle.std.specs.List.{filter}
 use Rattle.hypermap.specs.Lists.{keep, sum_of}
 use Rattle.hypermap.proofs.Basics.Bools.{by_cases}
 use Rattle.hypermap.proofs.Basics.Sums.{sum_ones}
@@ -74,6 +75,17 @@ pub keep_both : (p q : ℕ → Bool) (xs : List ℕ) → keep q (keep p xs) ≡ 
 unfolding keep
 keep_both p q [] = refl
 keep_both p q (x ∷ xs) = by_cases (p x) (λ t. rw (t, keep_both p q xs)) (λ t. rw t (keep_both p q xs))
+
+-- the places of a list that pass a test, by their numbers or in a row
+pub keep_places :
+    (p : ℕ → Bool) (m : List ℕ) (a n : ℕ) → a + n ≤ length m →
+    length (filter p (take n (drop a m))) ≡ length (keep (λ x. p (get_or m (x - 1) 0)) (up_from (suc a) n))
+unfolding keep up_from
+keep_places p m a zero h = refl
+keep_places p m a (suc n) h =
+    let e = keep_places p m (suc a) n (omega arith) in
+    let i : suc a - 1 ≡ a = omega arith in
+    rw (drop-cons m a 0 (omega arith), i) (by_cases (p (get_or m a 0)) (λ t. rw t (ap suc e)) (λ t. rw t e))
 
 -- a part of a local array
 pub zeros_length : (n : ℕ) → n ≤ max_capacity → length {A = ℕ} (take n (replicate max_capacity 0)) ≡ n

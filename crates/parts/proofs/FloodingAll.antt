@@ -18,7 +18,7 @@ use Rattle.table.proofs.Holding.{mem_present, table_hypermap, darts_few}
 use Rattle.table.proofs.Zeros.{zero_at}
 use Rattle.parts.specs.Counts as reports
 use Rattle.table.specs.Inner.{WithinCapacity}
-use Rattle.parts.specs.Inner.{mark_at, is_fresh, Skipped, PartMarked}
+use Rattle.parts.specs.Inner.{mark_at, is_fresh, Skipped, PartMarked, flooded_of}
 use Rattle.parts.proofs.Counting.{Summing, summing_none, summing_yes, summing_no, summing_all, keep_both}
 use Rattle.parts.proofs.Marking.{fresh_not, Sweep, Pass, Passed, passed_none, is_first, passed_fresh, passed_other}
 use Rattle.parts.proofs.Marking.{passed_count, passed_inside}
@@ -136,14 +136,14 @@ module _ (w : Table) (k : WithinCapacity w) where
           summing_all _ _ _ x total a h ∙ ap (sum_of (λ r. g (component_at (hypermap_of w) r)))
           (sym (keep_both (is_present w) (is_least_in (component_of (hypermap_of w))) (numbers w)))
 
-      pub all_counts :
-          (c ≡ theory.components (hypermap_of w)) × (l ≡ reports.lifts (hypermap_of w)) ×
-          (f ≡ theory.faces (hypermap_of w))
-      all_counts = (
-        passed_count w (all_sweep w) all_pass x c m i.passed h,
-        whole reports.lifts l i.is_lifts ∙ lifted,
-        whole theory.faces f i.is_faces ∙ faced,
-      )
+      pub all_counts : record { components = c; lifts = l; faces = f } ≡ flooded_of (hypermap_of w)
+      unfolding flooded_of
+      all_counts =
+          rw (
+            passed_count w (all_sweep w) all_pass x c m i.passed h,
+            whole reports.lifts l i.is_lifts ∙ lifted,
+            whole theory.faces f i.is_faces ∙ faced,
+          )
 
       pub all_part_marked : PartMarked (hypermap_of w).darts 1 (replicate max_capacity 0) m
       all_part_marked = record {

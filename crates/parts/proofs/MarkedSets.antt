@@ -6,14 +6,16 @@ use mathlib.Core.List.{List}
 use Prim.Native.Nat.{ℕ, ◌+◌, ◌-◌, ◌≤◌, ◌<◌}
 use native.Mathlib.Omega.{arith}
 use lib.Dec.{eqb}
-use lib.ListN.{length, get_or, replicate}
+use lib.ListN.{length, take, replicate}
+use Rattle.std.specs.List.{count_by}
+use Rattle.std.proofs.lemmas.List.Sums.{length-filter}
 use borrow.Author.Tests.{eq-eqb, ne_eqb}
 use Rattle.hypermap.specs.Lists.{among, keep}
 use Rattle.hypermap.specs.Hypermap.{is_dart, is_hypermap, Kind, orbit_of, component_of, is_least_in, orbits, restrict}
 use Rattle.hypermap.specs.Hypermap.{component_at}
 use Rattle.hypermap.specs.Laws.{Closed}
 use Rattle.hypermap.proofs.Basics.Bools.{by_cases, bool_ext, and_left, and_right, and_true}
-use Rattle.hypermap.proofs.Basics.Lists.{Mem, keep_shorter}
+use Rattle.hypermap.proofs.Basics.Lists.{Mem, keep_ext, keep_shorter}
 use Rattle.hypermap.proofs.Hypermaps.Totals.{links}
 use Rattle.hypermap.proofs.Hypermaps.Restricting.{restrict_ext, restrict_all, orbit_restrict, restrict_hypermap}
 use Rattle.hypermap.proofs.Hypermaps.Restricting.{closed_ext, closed_orbit, component_closed}
@@ -21,9 +23,10 @@ use Rattle.hypermap.proofs.Laws.Components.{component_law}
 use Rattle.table.specs.Limits.{max_capacity}
 use Rattle.table.specs.Layout.{Table, capacity, numbers, is_present, holds_hypermap, hypermap_of}
 use Rattle.table.proofs.Holding.{low, mem_present, table_hypermap, darts_few}
+use Rattle.table.proofs.Numbers.{numbers_mem}
 use Rattle.table.proofs.Zeros.{zero_at}
 use Rattle.parts.specs.Inner.{mark_at, PartMarked, is_marked, marked_in, MarkedSet, Raised}
-use Rattle.parts.proofs.Counting.{keep_both}
+use Rattle.parts.proofs.Counting.{keep_both, keep_places}
 use Rattle.parts.proofs.Marking.{Holds, Sweep, Pass, Passed, passed_none, passed_count, passed_inside}
 use Rattle.parts.proofs.Walking.{orbit_parts}
 
@@ -130,11 +133,13 @@ module _ (w : Table) (m : List ℕ) (v : ℕ) (k : MarkedSet w m v) where
       bool_ext (in_set w m v y) (is_marked m v y) (and_right (is_present w y) (is_marked m v y))
       (λ t. and_true (is_present w y) (is_marked m v y) (k.darts y l t) t)
 
-  pub in_set_at : (i : ℕ) → in_set w m v (i + 1) ≡ eqb (get_or m i 0) v
-  in_set_at i = in_set_test (i + 1) (omega arith) ∙ ap (λ j. eqb (get_or m j 0) v) (omega arith)
-
-  pub in_set_darts : length (keep (in_set w m v) (numbers w)) ≡ length (marked_in w m v).darts
-  in_set_darts = ap length (sym (keep_both (is_present w) (is_marked m v) (numbers w)))
+  -- the marks in a row
+  pub count_set : count_by (λ u. eqb u v) (take (capacity w) m) ≡ length (marked_in w m v).darts
+  count_set =
+      sym (length-filter (λ u. eqb u v) (take (capacity w) m)) ∙
+      keep_places (λ u. eqb u v) m 0 (capacity w) (omega (arith, k.room.size)) ∙
+      ap length (keep_ext (is_marked m v) (in_set w m v) (numbers w)
+      (λ y i. sym (in_set_test y (numbers_mem w y i).0)) ∙ sym (keep_both (is_present w) (is_marked m v) (numbers w)))
 
   module _ (c : Kind) where
     pub set_holds : Holds w (in_set w m v) (orbit_of (hypermap_of w) c)

@@ -20,14 +20,11 @@ pub fn count_darts(table: &[u16]) -> u32
     requires { WithinCapacity table.now }
     ensures { result ≡ length (hypermap_of table.now).darts }
 {
-    let n = words::capacity_of(table);
-    let mut count: u32 = 0;
-    let mut x: u16 = 1;
-    while words::to_usize(x) <= n {
+    let mut count = 0;
+    for x in 1..words::numbers_end(table) {
         if 0 < words::word(table, x, EDGE_NEXT) {
             count += 1;
         }
-        x += 1;
     }
     count
 }
@@ -49,15 +46,7 @@ pub fn count_marked(table: &[u16], marks: &[u16], value: u16) -> u32
     ensures { result ≡ length (marked_in table.now marks.now value).darts }
 {
     let n = words::capacity_of(table);
-    let mut count: u32 = 0;
-    let mut k = 0;
-    while k < n {
-        if marks[k] == value {
-            count += 1;
-        }
-        k += 1;
-    }
-    count
+    marks[..n].iter().filter(|mark| **mark == value).count() as u32
 }
 
 // The orbits of the darts that are marked with value, and marked with the next number afterwards.
@@ -66,15 +55,12 @@ pub fn count_orbits(table: &[u16], orbit: Orbit, marks: &mut [u16], value: u16) 
     ensures value { result ≡ orbits (marked_in table.now marks.old value) (kind_of orbit) }
     ensures marks { Raised value marks.old marks.new }
 {
-    let n = words::capacity_of(table);
-    let mut count: u32 = 0;
-    let mut x: u16 = 1;
-    while words::to_usize(x) <= n {
+    let mut count = 0;
+    for x in 1..words::numbers_end(table) {
         if mark_of(marks, x) == value {
             mark_orbit(table, orbit, x, value + 1, marks);
             count += 1;
         }
-        x += 1;
     }
     count
 }
@@ -134,25 +120,24 @@ pub fn flood_all(table: &[u16], marks: &mut [u16]) -> Flooded
 {
     let mut queue = [0u16; MAX_CAPACITY];
     let n = words::capacity_of(table);
-    let mut components: u32 = 0;
-    let mut lifts: u32 = 0;
-    let mut faces: u32 = 0;
-    let mut x: u16 = 1;
-    while words::to_usize(x) <= n {
+    let mut found = Flooded {
+        components: 0,
+        lifts: 0,
+        faces: 0,
+    };
+    let mut x = 1;
+    // By hand: the pass skips marked numbers four at a time, which no range does.
+    while usize::from(x) <= n {
         let mut next = x + 1;
         if is_fresh(table, marks, x) {
-            faces += flood(table, x, 1, marks, &mut queue);
-            lifts += component_lifts(table, x);
-            components += 1;
+            found.faces += flood(table, x, 1, marks, &mut queue);
+            found.lifts += component_lifts(table, x);
+            found.components += 1;
             next = skip_marked(marks, next, n);
         }
         x = next;
     }
-    Flooded {
-        components: components,
-        lifts: lifts,
-        faces: faces,
-    }
+    found
 }
 
 // Of all darts.

@@ -9,13 +9,6 @@ use crate::marks::{mark_of, mark_orbit};
 use table::limits::{EDGE_BACK, EDGE_NEXT};
 use table::{Orbit, words};
 
-// 1 if x is not greater than y, else 0.
-fn one_if_least(x: u16, y: u16) -> u32
-    ensures { result ≡ cond (leb x y) 1 0 }
-{
-    if x <= y { 1 } else { 0 }
-}
-
 // 1 if the edge of x is counted at x, else 0. An edge of more than two darts is counted at once, and marked.
 fn tally(table: &[u16], marks: &mut [u16], x: u16, value: u16) -> u32
     requires { MarkingAt table.now x marks.old }
@@ -24,10 +17,11 @@ fn tally(table: &[u16], marks: &mut [u16], x: u16, value: u16) -> u32
 {
     let y = words::word(table, x, EDGE_NEXT);
     if words::word(table, x, EDGE_BACK) == y {
-        return one_if_least(x, y);
+        u32::from(x <= y)
+    } else {
+        mark_orbit(table, Orbit::Edge, x, value, marks);
+        1
     }
-    mark_orbit(table, Orbit::Edge, x, value, marks);
-    1
 }
 
 // The edges of the darts that are marked with value; the darts of longer ones have the next number afterwards.
@@ -35,14 +29,11 @@ pub fn count_edges(table: &[u16], marks: &mut [u16], value: u16) -> u32
     requires { MarkedSet table.now marks.old value × (value < max_word) }
     ensures { result ≡ edges (marked_in table.now marks.old value) }
 {
-    let n = words::capacity_of(table);
-    let mut count: u32 = 0;
-    let mut x: u16 = 1;
-    while words::to_usize(x) <= n {
+    let mut count = 0;
+    for x in 1..words::numbers_end(table) {
         if mark_of(marks, x) == value {
             count += tally(table, marks, x, value + 1);
         }
-        x += 1;
     }
     count
 }

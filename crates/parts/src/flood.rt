@@ -9,7 +9,7 @@ ghost use Rattle.table.specs.Inner.{WithinCapacityAtBoth};
 ghost use Rattle.parts.specs.Inner.{Marking, PartMarked};
 ghost use Rattle.parts.specs.Floods.{front, Entering, Entered, Unmarked};
 
-use crate::marks::{clear, is_fresh, mark_dart, mark_of};
+use crate::marks::{is_fresh, mark_dart, mark_of};
 use table::limits::{EDGE_BACK, MAX_CAPACITY, VERTEX_BACK};
 use table::words;
 
@@ -48,8 +48,9 @@ pub fn flood(table: &[u16], x: u16, value: u16, marks: &mut [u16], queue: &mut [
         marks.old marks.new }
 {
     let mut tail = enter(table, x, value, marks, queue, 0);
-    let mut count: u32 = 1;
+    let mut count = 1;
     let mut head = 0;
+    // By hand: the queue grows while it is read, which no slice does in a `for`.
     while head < tail {
         let y = queue[head];
         if mark_of(marks, y) == 0 {
@@ -68,16 +69,13 @@ pub fn mark_components(table: &[u16], marks: &mut [u16]) -> u32
     ensures marks { marks.new ≡ component_marks table.now }
 {
     let mut queue = [0u16; MAX_CAPACITY];
-    clear(marks);
-    let n = words::capacity_of(table);
-    let mut count: u32 = 0;
-    let mut x: u16 = 1;
-    while words::to_usize(x) <= n {
+    marks.fill(0);
+    let mut count = 0;
+    for x in 1..words::numbers_end(table) {
         if is_fresh(table, marks, x) {
             flood(table, x, x, marks, &mut queue);
             count += 1;
         }
-        x += 1;
     }
     count
 }

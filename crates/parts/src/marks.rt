@@ -16,26 +16,20 @@ pub fn mark_of(marks: &[u16], x: u16) -> u16
     requires { HasMark marks.now x }
     ensures { result ≡ mark_at marks.now x }
 {
-    let at = words::to_usize(x) - 1;
-    marks[at]
+    marks[usize::from(x) - 1]
 }
 
 pub fn mark_dart(marks: &mut [u16], x: u16, value: u16)
     requires { HasMark marks.old x }
     ensures { marks.new ≡ set marks.old (x - 1) value }
 {
-    let at = words::to_usize(x) - 1;
-    marks[at] = value;
+    marks[usize::from(x) - 1] = value;
 }
 
 pub fn clear(marks: &mut [u16])
     ensures { marks.new ≡ replicate (length marks.old) 0 }
 {
-    let mut k = 0;
-    while k < marks.len() {
-        marks[k] = 0;
-        k += 1;
-    }
+    marks.fill(0);
 }
 
 // Whether x is a dart without a mark: in a pass over the numbers, the smallest dart of its part. Where there is a mark,
@@ -45,10 +39,7 @@ pub fn is_fresh(table: &[u16], marks: &[u16], x: u16) -> bool
     requires marks { HasMark marks.now x }
     ensures { result ≡ is_fresh table.now marks.now x }
 {
-    if mark_of(marks, x) != 0 {
-        return false;
-    }
-    0 < words::word(table, x, EDGE_NEXT)
+    mark_of(marks, x) == 0 && 0 < words::word(table, x, EDGE_NEXT)
 }
 
 // Whether x and the three numbers after it have marks.
@@ -68,12 +59,8 @@ pub fn skip_marked(marks: &[u16], x: u16, n: usize) -> u16
     ensures { Skipped marks.now x n result }
 {
     let mut at = x;
-    while words::to_usize(at) + 3 <= n {
-        if are_marked(marks, at) {
-            at += 4;
-        } else {
-            return at;
-        }
+    while usize::from(at) + 3 <= n && are_marked(marks, at) {
+        at += 4;
     }
     at
 }
@@ -100,16 +87,13 @@ pub fn mark_orbits(table: &[u16], orbit: Orbit, marks: &mut [u16]) -> u32
     ensures value { result ≡ orbits (hypermap_of table.now) (kind_of orbit) }
     ensures marks { marks.new ≡ orbit_marks table.now (kind_of orbit) }
 {
-    clear(marks);
-    let n = words::capacity_of(table);
-    let mut count: u32 = 0;
-    let mut x: u16 = 1;
-    while words::to_usize(x) <= n {
+    marks.fill(0);
+    let mut count = 0;
+    for x in 1..words::numbers_end(table) {
         if is_fresh(table, marks, x) {
             mark_orbit(table, orbit, x, x, marks);
             count += 1;
         }
-        x += 1;
     }
     count
 }

@@ -1,12 +1,8 @@
-use Rattle.std.proofs.Common.{◌+◌, ◌-◌}
 use Rattle.table.specs.Inner.{kind_of}
 use Rattle.parts.proofs.Marking.{Passed}
 use Rattle.parts.proofs.MarkedSets.{raising_sweep}
 use Rattle.parts.proofs.count.count_orbits.Given as goal
 
-abbrev pub invariant-loop-orbit : goal.invariant-loop-orbit
-invariant-loop-orbit l =
+abbrev pub invariant-loop-x : goal.invariant-loop-x
+invariant-loop-x l =
     Passed l.table (raising_sweep l.table l.fn.marks l.value (kind_of l.orbit)) l.x l.count l.marks
-
-abbrev pub decreases-loop-orbit : goal.decreases-loop-orbit
-decreases-loop-orbit l = l.n + 1 - l.x

@@ -1,5 +1,4 @@
 use Rattle.std.proofs.Common.{refl, sym, arith}
-use Rattle.parts.specs.Inner.{flooded_of}
 use Rattle.parts.proofs.Marking.{fresh_marking, fresh_part}
 use Rattle.parts.proofs.FloodingAll.{all_pass, all_none, all_other, all_fresh, all_few, all_counts, all_part_marked}
 use Rattle.parts.proofs.FloodingAll.{all_skip}
@@ -8,8 +7,8 @@ use Rattle.parts.proofs.count.flood_all.Goals as goal
 pub loop-queue-init : goal.loop-queue-init
 loop-queue-init c = all_none _ c.requires.0 _ c.requires.1
 
-pub flood-faces-requires : goal.flood-faces-requires
-flood-faces-requires c =
+pub flood-requires : goal.flood-requires
+flood-requires c =
     let s = c.requires.0 in
     let q = all_pass _ s in
     let i = c.loop-queue.invariant.passed in
@@ -22,26 +21,24 @@ flood-faces-requires c =
       unmarked = fresh_part _ _ q _ _ _ i (omega arith) e;
     }
 
-pub overflow_add-faces : goal.overflow_add-faces
-overflow_add-faces c =
+pub overflow_add-found : goal.overflow_add-found
+overflow_add-found c =
     let few = all_few _ c.requires.0 _ _ _ _ _ (all_fresh _ c.requires.0 _ _ _ _ _ c.loop-queue.invariant (omega arith)
-    (sym c.if-is_fresh.ensures) _ c.flood-faces.auto.marks c.flood-faces.ensures.marks
-    _ _ refl c.flood-faces.ensures.value) in
+    (sym c.if-is_fresh.ensures) _ c.flood.auto.marks c.flood.ensures.marks _ _ refl c.flood.ensures.value) in
     record { fits = omega (arith, few.1) }
 
-pub overflow_add-lifts : goal.overflow_add-lifts
-overflow_add-lifts c =
+pub overflow_add-found-then-is_fresh : goal.overflow_add-found-then-is_fresh
+overflow_add-found-then-is_fresh c =
     let few = all_few _ c.requires.0 _ _ _ _ _ (all_fresh _ c.requires.0 _ _ _ _ _ c.loop-queue.invariant (omega arith)
-    (sym c.if-is_fresh.ensures) _ c.flood-faces.auto.marks c.flood-faces.ensures.marks
-    _ _ c.component_lifts-lifts.ensures refl) in
+    (sym c.if-is_fresh.ensures) _ c.flood.auto.marks c.flood.ensures.marks _ _ c.component_lifts.ensures refl) in
     record { fits = omega (arith, few.0) }
 
 pub loop-queue-preserved-then-is_fresh : goal.loop-queue-preserved-then-is_fresh
 loop-queue-preserved-then-is_fresh c =
     all_skip _ c.requires.0 _ _ _ _ _ _ _ c.capacity_of-n.ensures c.skip_marked-next.ensures
     (all_fresh _ c.requires.0 _ _ _ _ _ c.loop-queue.invariant (omega arith)
-    (sym c.if-is_fresh.ensures) _ c.flood-faces.auto.marks c.flood-faces.ensures.marks
-    _ _ c.component_lifts-lifts.ensures c.flood-faces.ensures.value)
+    (sym c.if-is_fresh.ensures) _ c.flood.auto.marks c.flood.ensures.marks
+    _ _ c.component_lifts.ensures c.flood.ensures.value)
 
 pub loop-queue-preserved : goal.loop-queue-preserved
 loop-queue-preserved c =
@@ -49,12 +46,10 @@ loop-queue-preserved c =
     (sym c.if-is_fresh.ensures)
 
 pub returns : goal.returns
-unfolding flooded_of
 returns c =
     let p = c.requires in
     let i = c.loop-queue.invariant in
-    let a = all_counts _ p.0 _ _ _ _ _ i (omega arith) in
     record {
-      value = cc (a.0, a.1, a.2);
+      value = all_counts _ p.0 _ _ _ _ _ i (omega arith);
       marks = rw p.1 (all_part_marked _ p.0 _ _ _ _ _ i (omega arith));
     }

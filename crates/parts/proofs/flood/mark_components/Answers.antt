@@ -10,18 +10,18 @@ pub flood-requires : goal.flood-requires
 flood-requires c =
     let q = least_pass _ _ (component_parts _ c.requires.hypermap) in
     let e = sym c.if-is_fresh.ensures in
-    let m = fresh_marking _ _ q _ _ _ c.loop-queue.invariant (omega arith) e c.requires.hypermap in
+    let m = fresh_marking _ _ q _ _ _ c.loop-x.invariant (omega arith) e c.requires.hypermap in
     record {
       low = low _ _ m.at.here;
       few = c.requires.room;
       marking = m;
       room = omega arith;
-      unmarked = fresh_part _ _ q _ _ _ c.loop-queue.invariant (omega arith) e;
+      unmarked = fresh_part _ _ q _ _ _ c.loop-x.invariant (omega arith) e;
     }
 
-pub loop-queue-preserved : goal.loop-queue-preserved
-loop-queue-preserved c =
-    let i = c.loop-queue.invariant in
+pub loop-x-preserved : goal.loop-x-preserved
+loop-x-preserved c =
+    let i = c.loop-x.invariant in
     let r = component_parts _ c.requires.hypermap in
     elim c.if-is_fresh.branch [
       | then-is_fresh w ↦
@@ -35,5 +35,5 @@ loop-queue-preserved c =
 pub returns : goal.returns
 returns c =
     let r = component_parts _ c.requires.hypermap in
-    let a = least_all _ _ r _ _ _ c.loop-queue.invariant (omega arith) in
+    let a = least_all _ _ r _ _ _ c.loop-x.invariant (omega arith) in
     record { value = a.0; marks = a.1 }

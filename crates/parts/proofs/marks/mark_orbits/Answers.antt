@@ -6,10 +6,10 @@ use Rattle.parts.proofs.Walking.{orbit_parts}
 use Rattle.parts.proofs.marks.mark_orbits.Goals as goal
 use Rattle.parts.proofs.marks.mark_orbits.Goals.{then-is_fresh, else-is_fresh}
 
-pub loop-orbit-preserved : goal.loop-orbit-preserved
-loop-orbit-preserved c =
+pub loop-x-preserved : goal.loop-x-preserved
+loop-x-preserved c =
     let r = orbit_parts _ c.requires.hypermap (kind_of c.args.orbit) in
-    let i = c.loop-orbit.invariant in
+    let i = c.loop-x.invariant in
     elim c.if-is_fresh.branch [
       | then-is_fresh w ↦
           rw (w.marks-is, w.count-is)
@@ -23,5 +23,5 @@ loop-orbit-preserved c =
 pub returns : goal.returns
 returns c =
     let r = orbit_parts _ c.requires.hypermap (kind_of c.args.orbit) in
-    let a = least_all _ _ r _ _ _ c.loop-orbit.invariant (omega arith) in
+    let a = least_all _ _ r _ _ _ c.loop-x.invariant (omega arith) in
     record { value = a.0; marks = a.1 }
