@@ -6,5 +6,5 @@ use Rattle.parts.proofs.count.count_marked.Goals as goal
 pub returns : goal.returns
 returns c =
     let e : c.count.result ≡ count_by (λ u. eqb u c.args.value) (take c.capacity_of-n.result c.args.marks.now) =
-        search rules in
+    search rules in
     rw c.capacity_of-n.ensures at e ∙ count_set _ _ _ c.requires
