@@ -1,7 +1,7 @@
 -- The greatest of a list, and of the numbers that a ring names on a tape, one after the other. Assumes nothing.
 use mathlib.Core.Path.{◌≡◌, refl, sym, ap, ◌∙◌}
 use mathlib.Core.List.{List, [], ◌∷◌, ◌++◌}
-use Prim.Native.Nat.{ℕ, suc, ◌+◌, ◌*◌, ◌-◌, ◌≤◌, ◌<◌}
+use Prim.Native.Nat.{ℕ, suc, max, ◌+◌, ◌*◌, ◌-◌, ◌≤◌, ◌<◌}
 use native.Mathlib.Numerals.{add-one}
 use native.Mathlib.Omega.{arith}
 use lib.Dec.{ltb}
@@ -20,6 +20,9 @@ larger_is a b =
     by_cases (ltb a b)
     (λ t. let h = ltb-true a b t in rw t (omega arith))
     (λ f. let h = ltb-false a b f in rw f (omega arith))
+
+pub max_larger : (a b : ℕ) → max a b ≡ larger a b
+max_larger a b = omega (arith, larger_is a b)
 
 pub larger_zero : (a : ℕ) → larger a 0 ≡ a
 larger_zero a = omega (arith, larger_is a 0)

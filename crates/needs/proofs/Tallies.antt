@@ -7,29 +7,46 @@ use native.Mathlib.Omega.{arith}
 use lib.ListN.{length, take, drop}
 use borrow.Author.Tests.{eq-eqb, ne_eqb}
 use borrow.Author.Rules.{part_to_end}
+use Rattle.std.specs.Prelude.{Result, Ok}
+use Rattle.std.specs.Result.{IsErrAnd}
+use Rattle.std.proofs.lemmas.Result.{err_from_is_err_and}
+use Rattle.hypermap.specs.Hypermap.{Dimension}
 use Rattle.table.specs.Limits.{words_per_change}
+use Rattle.table.specs.Replies.{number}
+use Rattle.table.specs.declared.refusals.Refusal.{Refusal}
+use Rattle.table.proofs.Replying.{number_positive}
 use Rattle.table.specs.Commands.{puts, takes_out, joins, cuts}
 use Rattle.tape.specs.Steps.{TapeCommand, changes, reports, cuts_ring}
-use Rattle.tape.specs.Tapes.{command_of, read_refusal, rest_of, contents_of}
-use Rattle.tape.specs.Inner.{meaning, refusal_in, Reads}
+use Rattle.tape.specs.Tapes.{command_of, read_refusal, size_of, rest_of, contents_of}
+use Rattle.tape.specs.Inner.{meaning}
 use Rattle.tape.specs.declared.Instruction.{Instruction}
-use Rattle.tape.specs.declared.Reading.{Reading}
-use Rattle.tape.specs.declared.Reading.TheVariants.{Whole, Refused}
 use Rattle.tape.proofs.Contents.{rest_shorter, reading_law}
 use Rattle.needs.specs.Amounts.{named_by, named_in, larger, greatest, puts_by, take_outs_by, peak_of, changes_by}
-use Rattle.needs.specs.Amounts.{total, refused_needs, needs_of, needed_by}
-use Rattle.needs.specs.Inner.{peak_after, below_after, added}
+use Rattle.needs.specs.Amounts.{total, needs_of, needed_by}
+use Rattle.needs.specs.Replies.{needs_in}
+use Rattle.needs.specs.declared.Amounts.{Amounts}
+use Rattle.needs.specs.Inner.{peak_after, below_after, added, one_more}
 use Rattle.needs.specs.declared.Needs.{Needs}
 use Rattle.needs.specs.declared.Tally.{Tally}
 use Rattle.needs.proofs.Greatest.{larger_zero, zero_larger, larger_assoc, greatest_append}
 
 -- ONE COMMAND, by the parts that are counted of it
 pub added_by :
-    (t : Tally) (c : TapeCommand) (g m p b n : ℕ) → g ≡ greatest (named_by c) → m ≡ larger t.capacity g →
-    p ≡ peak_after t.peak t.below c → b ≡ below_after t.below c → n ≡ changes_by c →
-    ◌≡◌ {A = Tally}
-    (record { capacity = m; commands = t.commands + 1; peak = p; below = b; changes = t.changes + n }) (added t c)
-added_by t c g m p b n eg em ep eb en = rw (em, eg, ep, eb, en)
+    (t : Tally) (c : TapeCommand) (g p b n : ℕ) → g ≡ greatest (named_by c) → p ≡ peak_after t.peak t.below c →
+    b ≡ below_after t.below c → n ≡ changes_by c → record (one_more t g n) { peak = p; below = b } ≡ added t c
+added_by t c g p b n eg ep eb en = rw (eg, ep, eb, en)
+
+-- a join or a cut of a and b
+pub added_swap :
+    (t : Tally) (k : Dimension) (a b : ℕ) →
+    (one_more t (larger a b) 1 ≡ added t (changes (joins k a b))) ×
+    (one_more t (larger a b) 1 ≡ added t (changes (cuts k a b)))
+unfolding greatest
+added_swap t k a b =
+    let e = sym (ap (larger a) (larger_zero b)) in (
+      added_by t (changes (joins k a b)) _ _ _ 1 e (omega arith) (omega arith) refl,
+      added_by t (changes (cuts k a b)) _ _ _ 1 e (omega arith) (omega arith) refl,
+    )
 
 -- ALL COMMANDS: what is counted of cs behind t, in closed form
 abbrev counted : Tally → List TapeCommand → Needs
@@ -70,7 +87,7 @@ counted_on t c cs =
     omega arith in
     rw (g, n, p, m)
 
-abbrev nothing : Tally
+abbrev pub nothing : Tally
 nothing = record { capacity = 0; commands = 0; peak = 0; below = 0; changes = 0 }
 
 counted_first : (cs : List TapeCommand) → needs_of cs ≡ counted nothing cs
@@ -102,15 +119,13 @@ counting_first tape = record {
 
 module _ (tape rest : List ℕ) (t : Tally) (h : Counting tape rest t) where
   pub counting_end :
-      length rest ≡ 0 → ◌≡◌ {A = Needs}
-      (record {
-        number = 0;
+      length rest ≡ 0 →
+      needs_in (Ok (record {
         capacity = t.capacity;
         commands = t.commands;
         peak = t.peak;
         words = words_per_change * t.changes;
-      })
-      (needed_by (contents_of tape))
+      })) ≡ needed_by (contents_of tape)
   unfolding needed_by named_in greatest peak_of total
   counting_end e =
       let r = (reading_law rest).none e in
@@ -121,22 +136,26 @@ module _ (tape rest : List ℕ) (t : Tally) (h : Counting tape rest t) where
       let m : t.changes + 0 ≡ t.changes = omega arith in
       rw (eq-eqb (contents_of tape).refusal 0 z, s, larger_zero t.capacity, n, p, m)
 
-  -- the decoder reads r
-  module _ (some : 0 < length rest) (r : Reading) (a : Reads rest r) where
-    pub counting_refused : (n m : ℕ) → r ≡ Refused n → m ≡ refusal_in r → refused_needs m ≡ needed_by (contents_of tape)
+  module _ (some : 0 < length rest) where
+    -- the decoder answers the refusal d
+    pub counting_refused :
+        (d : Refusal) (r : Result Amounts Refusal) → IsErrAnd r (λ y. y ≡ d) → number d ≡ read_refusal rest →
+        needs_in r ≡ needed_by (contents_of tape)
     unfolding needed_by
-    counting_refused n m b e =
-        let q : Reads rest (Refused n) = rw b at a in
-        let g : m ≡ read_refusal rest = rw (b, q.0) at e in
-        let f : (contents_of tape).refusal ≡ m =
-        h.refusal ∙ ap (λ s. s.refusal) ((reading_law rest).refused some (λ z. q.1 (q.0 ∙ z))) ∙ sym g in
-        rw (ne_eqb (contents_of tape).refusal 0 (λ z. q.1 (q.0 ∙ sym g ∙ sym f ∙ z)), f)
+    counting_refused d r q e =
+        let p = err_from_is_err_and r q in
+        let z : read_refusal rest ≡ 0 → ⊥ = λ y. number_positive d (e ∙ y) in
+        let f : (contents_of tape).refusal ≡ number d =
+        h.refusal ∙ ap (λ s. s.refusal) ((reading_law rest).refused some z) ∙ sym e in
+        rw (p.1, p.2, ne_eqb (contents_of tape).refusal 0 (λ y. number_positive d (sym f ∙ y)), f)
 
+    -- or it reads i, of n bytes
     pub counting_on :
-        (i : Instruction) (n : ℕ) → r ≡ Whole i n → (u : Tally) → u ≡ added t (meaning rest i) →
-        u.changes ≤ t.changes + 255 → Counting tape (take (length rest - n) (drop n rest)) u
-    counting_on i n b u e l =
-        let w : Reads rest (Whole i n) = rw b at a in
+        (i : Instruction) (n : ℕ) →
+        (read_refusal rest ≡ 0) × (meaning rest i ≡ command_of rest) × (n ≡ size_of rest) → (u : Tally) →
+        u ≡ added t (meaning rest i) → u.changes ≤ t.changes + 255 →
+        Counting tape (take (length rest - n) (drop n rest)) u
+    counting_on i n w u e l =
         let g : u ≡ added t (command_of rest) = rw w.1 at e in
         let read = (reading_law rest).read some w.0 in
         let x = rest_shorter rest some in

@@ -1,9 +1,7 @@
 -- What is counted of a tape command by command. Assumes nothing: these are definitions.
-use Rattle.std.specs.Prelude.{◌≡◌, ℕ, ◌+◌, ◌*◌, ◌-◌, ◌≤◌}
+use Rattle.std.specs.Prelude.{ℕ, ◌+◌, ◌*◌, ◌-◌, ◌≤◌}
 use Rattle.table.specs.Limits.{max_tape}
-use Rattle.hypermap.specs.Hypermap.{Dimension}
-use Rattle.table.specs.Commands.{joins, cuts}
-use Rattle.tape.specs.Steps.{TapeCommand, changes}
+use Rattle.tape.specs.Steps.{TapeCommand}
 use Rattle.needs.specs.Amounts.{named_by, larger, greatest, puts_by, take_outs_by, changes_by}
 use Rattle.needs.specs.declared.Tally.{Tally}
 
@@ -23,9 +21,10 @@ added t c = record {
   changes = t.changes + changes_by c;
 }
 
--- a join or a cut of a and b, in either dimension
-abbrev pub AddsSwap : Tally → (a b : ℕ) → Tally → Type 0
-AddsSwap t a b r = (k : Dimension) → (r ≡ added t (changes (joins k a b))) × (r ≡ added t (changes (cuts k a b)))
+-- a command that neither puts nor takes out: it names numbers up to g and makes n changes
+abbrev pub one_more : Tally → (g n : ℕ) → Tally
+one_more t g n =
+    record t { capacity = larger t.capacity g; commands = t.commands + 1; changes = t.changes + n }
 
 -- the counts of a tape that is not too long
 pub record Countable (t : Tally) : Type 0 where

@@ -1,3 +1,4 @@
 pub mod Amounts
+pub mod Replies
 pub mod Laws
 pub mod Inner

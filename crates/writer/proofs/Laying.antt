@@ -1,12 +1,13 @@
 -- Bytes laid over a buffer, one part after another. Assumes nothing.
 use mathlib.Core.Path.{◌≡◌, refl, sym, ap, ◌∙◌}
 use mathlib.Core.List.{List, [], ◌∷◌, ◌++◌, append-nil, append_assoc}
-use Prim.Native.Nat.{ℕ, ◌+◌, ◌≤◌}
+use Prim.Native.Nat.{ℕ, ◌+◌, ◌-◌, ◌≤◌}
 use native.Mathlib.Nat.{add-zero, zero-add}
 use native.Mathlib.Numerals.{add-one}
 use native.Mathlib.Omega.{arith}
 use lib.ListN.{length, set, drop, length-append}
-use lib.Seq.{sets, sets-eq, length-sets}
+use lib.Seq.{drop-drop, sets, sets-eq, length-sets}
+use borrow.Rule.Slice.PartMut.{put_mid}
 use Rattle.writer.specs.Inner.{written, HasRoom, Lays}
 
 -- a run of stores
@@ -29,6 +30,14 @@ lays_none = record { laid = refl; place = omega arith }
 pub lays_one : {at v b : ℕ} {o : List ℕ} → v ≡ b → Lays at (b ∷ []) o (set o at v) (at + 1)
 unfolding written
 lays_one e = record { laid = rw e; place = refl }
+
+-- bytes put in place of a part of the buffer
+pub lays_bytes :
+    {at : ℕ} {bs o : List ℕ} → HasRoom at bs o →
+    Lays at bs o (put_mid at (at + length bs - at) o bs) (at + length bs)
+lays_bytes {at} {bs} {o} h =
+    let k : at + length bs - at ≡ length bs = omega arith in
+    record { laid = rw (k, drop-drop) (sym (as_sets at bs o ∙ sets-eq bs o at h.room ∙ append_assoc _ bs _)); place = refl }
 
 pub lays_then :
     {at m n : ℕ} {bs cs o p q : List ℕ} → Lays at bs o p m → Lays m cs p q n → Lays at (bs ++ cs) o q n

@@ -3,7 +3,6 @@ pub mod Passing
 pub mod OrbitJoins
 pub mod Sizes
 pub mod WholeTape
-pub mod Complements
 pub mod Screening
 pub mod EmptyTable
 pub mod ReadBack

@@ -6,16 +6,17 @@ use Prim.Native.Nat.{ℕ, ◌+◌, ◌*◌, ◌≤◌, ◌<◌}
 use native.Mathlib.Omega.{arith}
 use lib.ListN.{length, length-append}
 use borrow.Author.Tests.{le-leb, lt-leb}
+use Rattle.std.specs.Prelude.{Ok, Err}
 use Rattle.hypermap.specs.Hypermap.{edge, vertex, of}
 use Rattle.hypermap.specs.Hypermap.{edges as edges_in, vertices as vertices_in}
 use Rattle.table.specs.Limits.{max_capacity}
-use Rattle.table.specs.Refusals.{short_room}
+use Rattle.table.specs.declared.refusals.Refusal.TheVariants as refusal
 use Rattle.table.specs.Layout.{Table, hypermap_of}
 use Rattle.table.proofs.Holding.{darts_few}
 use Rattle.table.specs.Inner.{WithinCapacity}
 use Rattle.tape.specs.Tapes.{tape_bytes}
 use Rattle.writer.specs.Canonical.{puts_of, joins_of, tape_of}
-use Rattle.writer.specs.Inner.{HasRoom, Lays, written_of, written_leaves}
+use Rattle.writer.specs.Inner.{HasRoom, Lays, written_in, written_of, written_leaves}
 use Rattle.writer.proofs.Laying.{lays_then, lays_whole}
 use Rattle.writer.proofs.Sizes.{size_law, tape_parts, orbits_few}
 
@@ -48,7 +49,7 @@ module _ (w : Table) (o : List ℕ) {size : ℕ} (e : size ≡ length (tape_of w
 
   pub short_buffer :
       length o < size →
-      (record { number = short_room; count = 0 } ≡ written_of (tape_of w) o) × (o ≡ written_leaves (tape_of w) o)
+      (written_in (Err refusal.ShortRoom) ≡ written_of (tape_of w) o) × (o ≡ written_leaves (tape_of w) o)
   unfolding written_of written_leaves
   short_buffer h = let f = lt-leb (length (tape_of w)) (length o) (omega arith) in rw f (refl, refl)
 
@@ -69,7 +70,7 @@ module _ (w : Table) (o : List ℕ) {size : ℕ} (e : size ≡ length (tape_of w
 
         pub tape_laid :
             {t : List ℕ} {l : ℕ} → Lays n vertex_bytes q t l →
-            (record { number = 0; count = size } ≡ written_of (tape_of w) o) × (t ≡ written_leaves (tape_of w) o)
+            (written_in (Ok size) ≡ written_of (tape_of w) o) × (t ≡ written_leaves (tape_of w) o)
         unfolding written_of written_leaves
         tape_laid {t} {l} i =
             let whole : Lays 0 (tape_of w) o t l = rw (tape_parts w) (lays_then (lays_then f g) i) in

@@ -1,15 +1,16 @@
 -- What the inner functions are lent and answer. Assumes nothing: these are definitions.
-use Rattle.std.specs.Prelude.{◌≡◌, cond, List, [], ◌∷◌, ◌++◌, ℕ, ◌+◌, ◌*◌, ◌≤◌, leb, length, set, drop}
+use Rattle.std.specs.Prelude.{◌≡◌, cond, List, [], ◌∷◌, ◌++◌, ℕ, ◌+◌, ◌≤◌, leb, length, set, drop, Result, Ok, Err}
 use Rattle.hypermap.specs.Hypermap.{of}
 use Rattle.hypermap.specs.Hypermap as theory
 use Rattle.table.specs.Limits.{screen_room}
 use Rattle.table.specs.Refusals.{short_room}
+use Rattle.table.specs.Replies.{number}
+use Rattle.table.specs.declared.refusals.Refusal.{Refusal}
 use Rattle.table.specs.Layout.{Table, capacity, hypermap_of}
 use Rattle.table.specs.Inner.{HypermapAt, WithinCapacity}
 use Rattle.parts.specs.Marks.{orbit_marks}
 use Rattle.tape.specs.Tapes.{tape_bytes}
 use Rattle.writer.specs.Canonical.{orbit_joins, joins_of}
-use Rattle.writer.specs.declared.Written.{Written}
 
 -- WRITING. Bytes laid over a buffer from a place on
 unfoldable pub written : (at : ℕ) → (bytes out : List ℕ) → List ℕ
@@ -40,6 +41,16 @@ pub record WriterMarks (w : Table) (edges vertices : List ℕ) : Type 0 where
   pub edges_size : length edges ≡ capacity w
   pub vertices_size : length vertices ≡ capacity w
 
+-- 0 and the number of bytes, or a refusal and 0
+pub record Written : Type 0 where
+  pub number : ℕ
+  pub count : ℕ
+
+-- what the writer answers
+abbrev pub written_in : Result ℕ Refusal → Written
+written_in (Ok n) = record { number = 0; count = n }
+written_in (Err r) = record { number = number r; count = 0 }
+
 -- a tape into a buffer: 14 where it is shorter, and then as it was
 unfoldable pub written_of : (tape out : List ℕ) → Written
 written_of bs o =
@@ -49,11 +60,7 @@ written_of bs o =
 unfoldable pub written_leaves : (tape out : List ℕ) → List ℕ
 written_leaves bs o = cond (leb (length bs) (length o)) (bs ++ drop (length bs) o) o
 
--- THE SCREEN. Room for at most ten numbers of four bytes, and for its whole answer
-pub record NumbersRoom (numbers out : List ℕ) : Type 0 where
-  pub few : length numbers ≤ 10
-  pub room : 4 * length numbers ≤ length out
-
+-- THE SCREEN. Room for its whole answer
 pub record ScreenRoom (w : Table) (out : List ℕ) : Type 0 where
   pub table : WithinCapacity w
   pub room : screen_room ≤ length out

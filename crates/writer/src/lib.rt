@@ -5,10 +5,3 @@
 
 pub mod screen;
 pub mod write;
-
-// What the writer answers: 0 and the number of bytes, or refusal 14.
-#[derive(Clone, Copy)]
-pub struct Written {
-    pub number: u8,
-    pub count: u32,
-}

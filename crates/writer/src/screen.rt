@@ -1,53 +1,19 @@
 // How the screen's answer lies in its buffer: ten numbers of four bytes, and then the rewritten tape.
-ghost use Rattle.std.specs.Prelude.{◌≡◌, ◌++◌, ◌*◌, ◌≤◌, length, drop, replicate};
+ghost use Rattle.std.specs.Prelude.{◌≡◌, ◌++◌, ◌*◌, ◌≤◌, length, drop, map, replicate};
 ghost use Rattle.table.specs.Limits.{max_capacity, max_tape, screen_room, words_per_dart};
 ghost use Rattle.tape.specs.Runs.{run_of};
-ghost use Rattle.writer.specs.Inner.{HasRoom, Lays, NumbersRoom, ScreenRoom};
-ghost use Rattle.writer.specs.Screens.{four_bytes, twos_complement, numbers_bytes, screen_bytes, outcome_of};
+ghost use Rattle.writer.specs.Inner.{ScreenRoom};
+ghost use Rattle.writer.specs.Screens.{four_bytes, screen_bytes, outcome_of};
 
 use crate::write;
 use parts::count;
-use parts::sign::magnitude;
 use table::limits::MAX_WORDS;
 use tape::{Run, play};
 
-// Bytes of the ten numbers.
-const HEAD: usize = 40;
-
-// A signed number in two's complement: of a negative one, what its magnitude lacks to 2^32.
-fn complement_of(x: i32) -> u32
-    ensures { result ≡ twos_complement x }
+fn numbers_in_bytes(numbers: [u32; 10]) -> [[u8; 4]; 10]
+    ensures { result ≡ map four_bytes numbers }
 {
-    if 0 <= x {
-        magnitude(x)
-    } else {
-        4294967295 - (magnitude(x) - 1)
-    }
-}
-
-// Answers the place after the number.
-fn write_four(out: &mut [u8], at: usize, x: u32) -> usize
-    requires { HasRoom at (four_bytes x) out.old }
-    ensures { Lays at (four_bytes x) out.old out.new result }
-{
-    out[at] = (x % 256) as u8;
-    out[at + 1] = (x / 256 % 256) as u8;
-    out[at + 2] = (x / 65536 % 256) as u8;
-    out[at + 3] = (x / 16777216 % 256) as u8;
-    at + 4
-}
-
-fn write_numbers(out: &mut [u8], numbers: &[u32]) -> usize
-    requires { NumbersRoom numbers.now out.old }
-    ensures { Lays 0 (numbers_bytes numbers.now) out.old out.new result }
-{
-    let mut at = 0;
-    let mut i = 0;
-    while i < numbers.len() {
-        at = write_four(out, at, numbers[i]);
-        i += 1;
-    }
-    at
+    numbers.map(u32::to_le_bytes)
 }
 
 pub fn write_answer(table: &[u16], run: Run, out: &mut [u8])
@@ -64,12 +30,13 @@ pub fn write_answer(table: &[u16], run: Run, out: &mut [u8])
         c.vertices,
         c.faces,
         c.components,
-        complement_of(c.characteristic),
+        c.characteristic.cast_unsigned(),
         c.genus,
         c.lifts,
     ];
-    write_numbers(out, &numbers);
-    write::write_tape(table, &mut out[HEAD..]);
+    let head = numbers_in_bytes(numbers);
+    let end = write::write_bytes(out, 0, head.as_flattened());
+    write::write_tape(table, &mut out[end..]).unwrap();
 }
 
 // A run on an empty table of the greatest capacity, and its answer. Never inlined: the table makes a large frame, and
@@ -82,6 +49,6 @@ pub fn play_and_answer(tape: &[u8], out: &mut [u8])
         drop (length (screen_bytes (run_of (replicate (words_per_dart * max_capacity) 0) tape.now))) out.old }
 {
     let mut table = [0u16; MAX_WORDS];
-    let run = play::play(&mut table, tape);
+    let run = Run::from(play::play(&mut table, tape));
     write_answer(&table, run, out);
 }

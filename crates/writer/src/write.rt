@@ -5,53 +5,52 @@ ghost use Rattle.table.specs.Limits.{max_capacity};
 ghost use Rattle.table.specs.Layout.{hypermap_of};
 ghost use Rattle.table.specs.Commands.{puts, joins};
 ghost use Rattle.table.specs.Inner.{dimension_of, WithinCapacity};
-ghost use Rattle.tape.specs.Tapes.{bytes_of, number_bytes, tape_bytes, join_byte};
+ghost use Rattle.tape.specs.Tapes.{bytes_of, tape_bytes};
 ghost use Rattle.writer.specs.Canonical.{orbit_joins, joins_of, puts_of, tape_of};
-ghost use Rattle.writer.specs.Inner.{HasRoom, Lays, OrbitJoinsRoom, JoinsRoom, WriterMarks, written_of};
+ghost use Rattle.writer.specs.Inner.{HasRoom, Lays, OrbitJoinsRoom, JoinsRoom, WriterMarks, written_in, written_of};
 ghost use Rattle.writer.specs.Inner.{written_leaves};
 
-use crate::Written;
 use parts::count;
 use parts::marks::{mark_of, mark_orbits};
 use table::limits::{EDGE_NEXT, MAX_CAPACITY};
-use table::{Dimension, Orbit, refusals, walk, words};
-use tape::operands;
+use table::refusals::Refusal;
+use table::{Dimension, Orbit, walk, words};
+use tape::opcode::Opcode;
 
-// COMMANDS into a buffer, from a place on; each answers the place after it.
+// Bytes of a put and of a join.
+const PUT_SIZE: usize = 3;
 
-fn write_number(out: &mut [u8], at: usize, x: u16) -> usize
-    requires { HasRoom at (number_bytes x) out.old }
-    ensures { Lays at (number_bytes x) out.old out.new result }
+const JOIN_SIZE: usize = 5;
+
+// COMMANDS
+
+fn put_bytes(x: u16) -> [u8; PUT_SIZE]
+    ensures { result ≡ bytes_of (puts x) }
 {
-    out[at] = (x % 256) as u8;
-    out[at + 1] = (x / 256) as u8;
-    at + 2
+    let [low, high] = x.to_le_bytes();
+    [Opcode::Put.into(), low, high]
 }
 
-fn join_byte(d: Dimension) -> u8
-    ensures { result ≡ join_byte (dimension_of d) }
+fn join_bytes(d: Dimension, a: u16, b: u16) -> [u8; JOIN_SIZE]
+    ensures { result ≡ bytes_of (joins (dimension_of d) a b) }
 {
-    match d {
-        Dimension::Edge => operands::EDGE_JOIN,
-        Dimension::Vertex => operands::VERTEX_JOIN,
-    }
+    let opcode = match d {
+        Dimension::Edge => Opcode::EdgeJoin,
+        Dimension::Vertex => Opcode::VertexJoin,
+    };
+    let [a_low, a_high] = a.to_le_bytes();
+    let [b_low, b_high] = b.to_le_bytes();
+    [opcode.into(), a_low, a_high, b_low, b_high]
 }
 
-fn write_put(out: &mut [u8], at: usize, x: u16) -> usize
-    requires { HasRoom at (bytes_of (puts x)) out.old }
-    ensures { Lays at (bytes_of (puts x)) out.old out.new result }
+// Bytes into a buffer, from a place on; answers the place after them.
+pub fn write_bytes(out: &mut [u8], at: usize, bytes: &[u8]) -> usize
+    requires { HasRoom at bytes.now out.old }
+    ensures { Lays at bytes.now out.old out.new result }
 {
-    out[at] = operands::PUT;
-    write_number(out, at + 1, x)
-}
-
-fn write_join(out: &mut [u8], at: usize, d: Dimension, a: u16, b: u16) -> usize
-    requires { HasRoom at (bytes_of (joins (dimension_of d) a b)) out.old }
-    ensures { Lays at (bytes_of (joins (dimension_of d) a b)) out.old out.new result }
-{
-    out[at] = join_byte(d);
-    let next = write_number(out, at + 1, a);
-    write_number(out, next, b)
+    let end = at + bytes.len();
+    out[at..end].copy_from_slice(bytes);
+    end
 }
 
 // PARTS of the tape
@@ -62,14 +61,11 @@ fn write_puts(table: &[u16], out: &mut [u8]) -> usize
     ensures { Lays 0 (tape_bytes (puts_of (hypermap_of table.now)))
         out.old out.new result }
 {
-    let n = words::capacity_of(table);
     let mut at = 0;
-    let mut x: u16 = 1;
-    while words::to_usize(x) <= n {
+    for x in 1..words::numbers_end(table) {
         if 0 < words::word(table, x, EDGE_NEXT) {
-            at = write_put(out, at, x);
+            at = write_bytes(out, at, &put_bytes(x));
         }
-        x += 1;
     }
     at
 }
@@ -83,7 +79,7 @@ fn write_orbit_joins(table: &[u16], d: Dimension, x: u16, out: &mut [u8], from: 
     let mut at = from;
     let mut y = walk::next(table, d, x);
     while y != x {
-        at = write_join(out, at, d, x, y);
+        at = write_bytes(out, at, &join_bytes(d, x, y));
         y = walk::next(table, d, y);
     }
     at
@@ -95,14 +91,11 @@ fn write_joins(table: &[u16], d: Dimension, marks: &[u16], out: &mut [u8], from:
     ensures { Lays from (tape_bytes (joins_of (hypermap_of table.now) (dimension_of d)))
         out.old out.new result }
 {
-    let n = words::capacity_of(table);
     let mut at = from;
-    let mut x: u16 = 1;
-    while words::to_usize(x) <= n {
+    for x in 1..words::numbers_end(table) {
         if mark_of(marks, x) == x {
             at = write_orbit_joins(table, d, x, out, at);
         }
-        x += 1;
     }
     at
 }
@@ -114,10 +107,8 @@ fn tape_size(darts: u32, edges: u32, vertices: u32) -> u32
     requires { (darts ≤ max_capacity) × (edges ≤ darts) × (vertices ≤ darts) }
     ensures { result + 5 * (edges + vertices) ≡ 13 * darts }
 {
-    let operand_bytes = operands::OPERAND_BYTES;
-    operands::command_size(&operand_bytes, operands::PUT) as u32 * darts
-        + operands::command_size(&operand_bytes, operands::EDGE_JOIN) as u32 * (darts - edges)
-        + operands::command_size(&operand_bytes, operands::VERTEX_JOIN) as u32 * (darts - vertices)
+    let joins = (darts - edges) + (darts - vertices);
+    PUT_SIZE as u32 * darts + JOIN_SIZE as u32 * joins
 }
 
 // With room for a mark of each dart in each dimension.
@@ -126,9 +117,9 @@ fn write_marked(
     edge_marks: &mut [u16],
     vertex_marks: &mut [u16],
     out: &mut [u8],
-) -> Written
+) -> Result<u32, Refusal>
     requires { WriterMarks table.now edge_marks.old vertex_marks.old }
-    ensures value { result ≡ written_of (tape_of table.now) out.old }
+    ensures value { written_in result ≡ written_of (tape_of table.now) out.old }
     ensures out { out.new ≡ written_leaves (tape_of table.now) out.old }
 {
     let darts = count::count_darts(table);
@@ -136,23 +127,18 @@ fn write_marked(
     let vertices = mark_orbits(table, Orbit::Vertex, vertex_marks);
     let size = tape_size(darts, edges, vertices);
     if out.len() < size as usize {
-        return Written {
-            number: refusals::SHORT_ROOM,
-            count: 0,
-        };
+        return Err(Refusal::ShortRoom);
     }
     let puts = write_puts(table, out);
     let joins = write_joins(table, Dimension::Edge, edge_marks, out, puts);
     write_joins(table, Dimension::Vertex, vertex_marks, out, joins);
-    Written {
-        number: 0,
-        count: size,
-    }
+    Ok(size)
 }
 
-pub fn write_tape(table: &[u16], out: &mut [u8]) -> Written
+// The bytes written.
+pub fn write_tape(table: &[u16], out: &mut [u8]) -> Result<u32, Refusal>
     requires { WithinCapacity table.now }
-    ensures value { result ≡ written_of (tape_of table.now) out.old }
+    ensures value { written_in result ≡ written_of (tape_of table.now) out.old }
     ensures out { out.new ≡ written_leaves (tape_of table.now) out.old }
 {
     let n = words::capacity_of(table);

@@ -1,4 +1,3 @@
-use Prim.Native.Nat.{◌+◌, ◌-◌}
 use Rattle.table.specs.Layout.{capacity, hypermap_of}
 use Rattle.table.specs.Inner.{dimension_of}
 use Rattle.tape.specs.Tapes.{tape_bytes}
@@ -6,10 +5,7 @@ use Rattle.writer.specs.Canonical.{orbit_joins}
 use Rattle.writer.proofs.Passing.{Passing, is_first}
 use Rattle.writer.proofs.write.write_joins.Given as goal
 
-abbrev pub invariant-loop-d : goal.invariant-loop-d
-invariant-loop-d l =
+abbrev pub invariant-loop-x : goal.invariant-loop-x
+invariant-loop-x l =
     Passing (capacity l.table) (is_first l.table (dimension_of l.d))
     (λ x. tape_bytes (orbit_joins (hypermap_of l.table) (dimension_of l.d) x)) l.from l.initial.out l.out l.at l.x
-
-abbrev pub decreases-loop-d : goal.decreases-loop-d
-decreases-loop-d l = l.n + 1 - l.x

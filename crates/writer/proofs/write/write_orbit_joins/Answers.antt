@@ -4,9 +4,9 @@ use Rattle.writer.proofs.write.write_orbit_joins.Goals as goal
 pub loop-y-init : goal.loop-y-init
 loop-y-init c = joining_first c.requires c.next-y.ensures
 
-pub write_join-at-requires : goal.write_join-at-requires
-write_join-at-requires c =
-    joining_room c.requires c.loop-y.invariant c.loop-y-test.true
+pub write_bytes-at-requires : goal.write_bytes-at-requires
+write_bytes-at-requires c =
+    rw c.join_bytes.ensures (joining_room c.requires c.loop-y.invariant c.loop-y-test.true)
 
 pub next-y-requires-in-loop-y : goal.next-y-requires-in-loop-y
 next-y-requires-in-loop-y c =
@@ -18,7 +18,8 @@ loop-y-smaller c =
 
 pub loop-y-preserved : goal.loop-y-preserved
 loop-y-preserved c =
-    joining_on c.requires c.loop-y.invariant c.loop-y-test.true c.next-y-in-loop-y.ensures c.write_join-at.ensures
+    joining_on c.requires c.loop-y.invariant c.loop-y-test.true c.next-y-in-loop-y.ensures
+    (rw c.join_bytes.ensures at c.write_bytes-at.ensures)
 
 pub returns : goal.returns
 returns c =
