@@ -25,5 +25,5 @@ unfoldable pub first_leaves : {S : Type 0} → Rule S TapeCommand → S → (tap
 first_leaves r s bs = leaves (first_refusal r s bs) (r.on s (command_of bs)) s
 
 -- what the player answers
-abbrev pub told_of : Outcome Table → Run
+abbrev pub told_of : {S : Type 0} → Outcome S → Run
 told_of o = record { number = o.number; accepted = o.accepted }

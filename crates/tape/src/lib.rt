@@ -28,6 +28,18 @@ pub struct Stopped {
     pub accepted: u32,
 }
 
+// A run that is refused before its first command.
+impl From<Refusal> for Stopped {
+    ghost from_gives = { λ refusal stopped. (stopped.refusal ≡ refusal) × (stopped.accepted ≡ 0) };
+
+    fn from(refusal: Refusal) -> Stopped {
+        Stopped {
+            refusal,
+            accepted: 0,
+        }
+    }
+}
+
 // What C is told of a run: 0 or the refusal that stopped it, and how many commands were accepted.
 #[repr(C)]
 #[derive(Clone, Copy)]
