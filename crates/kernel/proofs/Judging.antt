@@ -1,6 +1,12 @@
 -- What a question that was not refused has passed, and how many marks there are. Assumes nothing.
-use mathlib.Core.Path.{◌≡◌, sym, ◌∙◌}
-use mathlib.Core.List.{[], ◌∷◌}
+use mathlib.Core.Path.{◌≡◌, refl, sym, ◌∙◌}
+use mathlib.Core.Bool.{false}
+use mathlib.Core.List.{List, [], ◌∷◌}
+use Rattle.std.specs.Prelude.{Result}
+use Rattle.std.specs.Result.{IsErrAnd}
+use Rattle.table.specs.Replies.{number, reply}
+use Rattle.table.specs.declared.refusals.Refusal.{Refusal}
+use Rattle.table.proofs.Replying.{stops, goes_on}
 use Prim.Native.Nat.{ℕ}
 use lib.ListN.{length}
 use Rattle.hypermap.specs.Hypermap.{component_of}
@@ -9,6 +15,9 @@ use Rattle.table.specs.Inner.{WithinCapacityAt, WithinCapacityAtBoth}
 use Rattle.table.specs.Commands.{presence_refusal}
 use Rattle.table.proofs.Stages.{passed, one_present, both_present}
 use Rattle.parts.specs.Marks.{component_marks}
+use Rattle.parts.specs.Sharing.{is_same, steps_round}
+use Rattle.parts.specs.declared.Part.{Part}
+use Rattle.parts.specs.declared.Part.TheVariants.{Edge, Vertex, Face, Component}
 use Rattle.parts.proofs.LeastMarks.{marks_length}
 use Rattle.soundness.specs.Soundness.{table_refusal}
 use Rattle.soundness.proofs.Passing.{table_passed}
@@ -33,3 +42,22 @@ darts_ready w a b e =
     let t = table_passed w p.0 in
     let q = both_present w a b p.1 in
     record { both = record { hypermap = t.hypermap; first = q.0; second = q.1 }; room = t.room }
+
+-- the table's refusal comes first, and then that of the darts
+module _ (w : Table) (xs : List ℕ) where
+  pub question_first :
+      {A : Type 0} (r : Result A Refusal) (d : Refusal) → IsErrAnd r (λ y. y ≡ d) → number d ≡ table_refusal w →
+      reply r ≡ question_refusal w xs
+  unfolding question_refusal
+  question_first r d q e = stops r d (table_refusal w) (presence_refusal w xs) q e
+
+  pub question_rest : (r : ℕ) → 0 ≡ table_refusal w → r ≡ presence_refusal w xs → r ≡ question_refusal w xs
+  unfolding question_refusal
+  question_rest r e q = goes_on (table_refusal w) (presence_refusal w xs) r e q
+
+-- no steps are told where two darts share no part
+pub no_steps : (w : Table) (p : Part) (a b : ℕ) → is_same w p a b ≡ false → steps_round w p a b ≡ 0
+no_steps w Edge a b e = rw e
+no_steps w Vertex a b e = rw e
+no_steps w Face a b e = refl
+no_steps w Component a b e = refl

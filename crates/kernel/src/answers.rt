@@ -1,48 +1,69 @@
-// Answers as the calls give them: a refusal with all else zero, or 0 and the numbers of a report.
+// What C is told of a call's answer: a refusal and zeros, or 0 and what was asked.
 ghost use Rattle.std.specs.Prelude.{◌≡◌};
-ghost use Rattle.kernel.specs.Calls.{refused_answer, refused_totals, totals_of};
+ghost use Rattle.kernel.specs.Replies.{totals_reply, count_reply, shared_reply};
 
 use crate::{Answer, Totals};
 use parts::Counts;
+use table::refusals::Refusal;
 
-pub fn refused(refusal: u8) -> Answer
-    ensures { result ≡ refused_answer refusal }
-{
-    Answer {
-        number: refusal,
-        yes: false,
-        count: 0,
+// The numbers of a report.
+impl From<Result<Counts, Refusal>> for Totals {
+    ghost from_gives = { λ answer totals. totals ≡ totals_reply answer };
+
+    fn from(answer: Result<Counts, Refusal>) -> Totals {
+        match answer {
+            Ok(c) => Totals {
+                number: 0,
+                darts: c.darts,
+                edges: c.edges,
+                vertices: c.vertices,
+                faces: c.faces,
+                components: c.components,
+                characteristic: c.characteristic,
+                genus: c.genus,
+                lifts: c.lifts,
+            },
+            Err(refusal) => Totals {
+                number: refusal.into(),
+                ..Totals::default()
+            },
+        }
     }
 }
 
-pub fn refused_totals(refusal: u8) -> Totals
-    ensures { result ≡ refused_totals refusal }
-{
-    Totals {
-        number: refusal,
-        darts: 0,
-        edges: 0,
-        vertices: 0,
-        faces: 0,
-        components: 0,
-        characteristic: 0,
-        genus: 0,
-        lifts: 0,
+// A count.
+impl From<Result<u32, Refusal>> for Answer {
+    ghost from_gives = { λ answer told. told ≡ count_reply answer };
+
+    fn from(answer: Result<u32, Refusal>) -> Answer {
+        match answer {
+            Ok(count) => Answer {
+                count,
+                ..Answer::default()
+            },
+            Err(refusal) => Answer {
+                number: refusal.into(),
+                ..Answer::default()
+            },
+        }
     }
 }
 
-pub fn totals(c: Counts) -> Totals
-    ensures { result ≡ totals_of c }
-{
-    Totals {
-        number: 0,
-        darts: c.darts,
-        edges: c.edges,
-        vertices: c.vertices,
-        faces: c.faces,
-        components: c.components,
-        characteristic: c.characteristic,
-        genus: c.genus,
-        lifts: c.lifts,
+// Whether two darts share a part, and how far round it one is from the other.
+impl From<Result<Option<u16>, Refusal>> for Answer {
+    ghost from_gives = { λ answer told. told ≡ shared_reply answer };
+
+    fn from(answer: Result<Option<u16>, Refusal>) -> Answer {
+        match answer {
+            Ok(steps) => Answer {
+                number: 0,
+                yes: steps.is_some(),
+                count: steps.unwrap_or(0).into(),
+            },
+            Err(refusal) => Answer {
+                number: refusal.into(),
+                ..Answer::default()
+            },
+        }
     }
 }

@@ -6,34 +6,40 @@
 ghost use Rattle.std.specs.Prelude.{◌≡◌};
 ghost use Rattle.table.specs.Commands.{puts, takes_out, joins, cuts};
 ghost use Rattle.table.specs.Inner.{dimension_of, command_for};
+ghost use Rattle.table.specs.Replies.{reply};
+ghost use Rattle.tape.specs.Runs.{told_of};
+ghost use Rattle.tape.specs.Replies.{run_reply};
+ghost use Rattle.needs.specs.Replies.{needs_in};
 ghost use Rattle.kernel.specs.Calls.{call_refusal, call_leaves, ring_call_refusal, ring_call_leaves, report_of};
 ghost use Rattle.kernel.specs.Calls.{component_report_of, same_answer, round_answer, round_leaves, marks_answer};
 ghost use Rattle.kernel.specs.Calls.{marks_leaves, look_of, look_place};
-ghost use Rattle.tape.specs.Runs.{told_of};
 ghost use Rattle.kernel.specs.Tapes.{play_outcome, needs_answer, tape_answer, tape_leaves};
 ghost use Rattle.kernel.specs.Tapes.{screen_refusal, screen_leaves};
+ghost use Rattle.kernel.specs.Replies.{totals_reply, count_reply, shared_reply};
 
 mod answers;
 mod questions;
 
-pub use needs::Needs;
 use needs::tallying;
-pub use parts::Part;
+pub use needs::{Amounts, Needs};
+pub use parts::{Counts, Part};
 use parts::{count, flood, share};
-use rings::cut as ring_cutting;
-use soundness::table_refusal;
-use table::limits::{EDGE_NEXT, MAX_TAPE, SCREEN_ROOM, WORDS_PER_DART};
+use questions::{judge_dart_question, judge_darts_question};
+use rings::cut::cut_ring;
+use soundness::{judge_table, judge_tape};
+use table::limits::{EDGE_NEXT, SCREEN_ROOM, WORDS_PER_DART};
+pub use table::refusals::Refusal;
 use table::words::to_word;
 pub use table::{Change, Dimension, Orbit};
-use table::{changes, refusals, walk, words};
-pub use tape::Run;
+use table::{changes, walk, words};
 use tape::play as player;
+pub use tape::{Run, Stopped};
 use writer::screen::play_and_answer;
 use writer::write;
 
-// What a report answers: a refusal and zeros, or 0 and the numbers in document 01's order.
+// What C is told of a report: a refusal and zeros, or 0 and the numbers in document 01's order.
 #[repr(C)]
-#[derive(Clone, Copy)]
+#[derive(Clone, Copy, Default)]
 pub struct Totals {
     pub number: u8,
     pub darts: u32,
@@ -46,52 +52,45 @@ pub struct Totals {
     pub lifts: u32,
 }
 
-// What a question answers: a refusal and nothing else, or 0 and what was asked.
+// What C is told of a question: a refusal and nothing else, or 0 and what was asked.
 #[repr(C)]
-#[derive(Clone, Copy)]
+#[derive(Clone, Copy, Default)]
 pub struct Answer {
     pub number: u8,
     pub yes: bool,
     pub count: u32,
 }
 
-// CHANGES: each answers 0, or its refusal, and then no word has changed. One call makes them all; the others name one
+// CHANGES: each is accepted, or refused, and then no word has changed. One call makes them all; the others name one
 // change each.
 
-pub fn make_change(table: &mut [u16], change: Change) -> u8
-    ensures value { result ≡ call_refusal table.old (command_for change) }
+pub fn make_change(table: &mut [u16], change: Change) -> Result<(), Refusal>
+    ensures value { reply result ≡ call_refusal table.old (command_for change) }
     ensures table { table.new ≡ call_leaves table.old (command_for change) }
 {
-    let bent = table_refusal(table);
-    if bent != 0 {
-        return bent;
-    }
-    let refusal = changes::refusal_of(table, change);
-    if refusal == 0 {
-        changes::write(table, change);
-    }
-    refusal
+    judge_table(table)?;
+    changes::perform(table, change)
 }
 
 // Dart x appears, an edge and a vertex by itself.
-pub fn put(table: &mut [u16], x: u32) -> u8
-    ensures value { result ≡ call_refusal table.old (puts x) }
+pub fn put(table: &mut [u16], x: u32) -> Result<(), Refusal>
+    ensures value { reply result ≡ call_refusal table.old (puts x) }
     ensures table { table.new ≡ call_leaves table.old (puts x) }
 {
     make_change(table, Change::Put(x))
 }
 
 // Dart x disappears, which is an edge and a vertex by itself.
-pub fn take_out(table: &mut [u16], x: u32) -> u8
-    ensures value { result ≡ call_refusal table.old (takes_out x) }
+pub fn take_out(table: &mut [u16], x: u32) -> Result<(), Refusal>
+    ensures value { reply result ≡ call_refusal table.old (takes_out x) }
     ensures table { table.new ≡ call_leaves table.old (takes_out x) }
 {
     make_change(table, Change::TakeOut(x))
 }
 
 // The edges, or the vertices, of a and b become one.
-pub fn join(table: &mut [u16], d: Dimension, a: u32, b: u32) -> u8
-    ensures value { result ≡ call_refusal table.old (joins (dimension_of d) a b) }
+pub fn join(table: &mut [u16], d: Dimension, a: u32, b: u32) -> Result<(), Refusal>
+    ensures value { reply result ≡ call_refusal table.old (joins (dimension_of d) a b) }
     ensures table { table.new ≡ call_leaves table.old (joins (dimension_of d) a b) }
 {
     match d {
@@ -101,8 +100,8 @@ pub fn join(table: &mut [u16], d: Dimension, a: u32, b: u32) -> u8
 }
 
 // The edge, or the vertex, of a and b becomes two, one with a and one with b.
-pub fn cut(table: &mut [u16], d: Dimension, a: u32, b: u32) -> u8
-    ensures value { result ≡ call_refusal table.old (cuts (dimension_of d) a b) }
+pub fn cut(table: &mut [u16], d: Dimension, a: u32, b: u32) -> Result<(), Refusal>
+    ensures value { reply result ≡ call_refusal table.old (cuts (dimension_of d) a b) }
     ensures table { table.new ≡ call_leaves table.old (cuts (dimension_of d) a b) }
 {
     match d {
@@ -115,101 +114,70 @@ pub fn cut(table: &mut [u16], d: Dimension, a: u32, b: u32) -> u8
 
 // Cuts the edge of each double-link of a ring, lent as a list of words: the two darts of each double-link in turn.
 // Document 01: the ring cut, crossing by crossing.
-pub fn ring_cut(table: &mut [u16], ring: &[u16]) -> u8
-    ensures value { result ≡ ring_call_refusal table.old ring.now }
+pub fn ring_cut(table: &mut [u16], ring: &[u16]) -> Result<(), Refusal>
+    ensures value { reply result ≡ ring_call_refusal table.old ring.now }
     ensures table { table.new ≡ ring_call_leaves table.old ring.now }
 {
-    let refusal = table_refusal(table);
-    if refusal != 0 {
-        return refusal;
-    }
-    ring_cutting::cut_ring(table, ring)
+    judge_table(table)?;
+    cut_ring(table, ring)
 }
 
 // QUESTIONS
 
 // How many darts, edges, vertices, faces and components there are, the characteristic, the genus, and the lifts, which
 // are the components of at least two darts.
-pub fn report(table: &[u16]) -> Totals
-    ensures { result ≡ report_of table.now }
+pub fn report(table: &[u16]) -> Result<Counts, Refusal>
+    ensures { totals_reply result ≡ report_of table.now }
 {
-    let refusal = table_refusal(table);
-    if refusal != 0 {
-        return answers::refused_totals(refusal);
-    }
-    answers::totals(count::counts(table))
+    judge_table(table)?;
+    Ok(count::counts(table))
 }
 
 // The same numbers of the component of x by itself.
-pub fn component_report(table: &[u16], x: u32) -> Totals
-    ensures { result ≡ component_report_of table.now x }
+pub fn component_report(table: &[u16], x: u32) -> Result<Counts, Refusal>
+    ensures { totals_reply result ≡ component_report_of table.now x }
 {
-    let refusal = questions::dart_question_refusal(table, x);
-    if refusal != 0 {
-        return answers::refused_totals(refusal);
-    }
-    answers::totals(count::component_counts(table, to_word(x)))
+    judge_dart_question(table, x)?;
+    Ok(count::component_counts(table, to_word(x)))
 }
 
-// Whether a and b lie in one edge, vertex, face or component. For an edge or a vertex the count is how far b is from a:
-// the fewest steps, each to the successor.
-pub fn same(table: &[u16], part: Part, a: u32, b: u32) -> Answer
-    ensures { result ≡ same_answer table.now part a b }
+// How far b is from a round the edge or vertex that both lie in: the fewest steps, each to the successor. 0 where both
+// lie in the face or component that was asked for, None where they lie in no one part of the kind.
+pub fn same(table: &[u16], part: Part, a: u32, b: u32) -> Result<Option<u16>, Refusal>
+    ensures { shared_reply result ≡ same_answer table.now part a b }
 {
-    let refusal = questions::darts_question_refusal(table, a, b);
-    if refusal != 0 {
-        return answers::refused(refusal);
-    }
-    let found = share::distance(table, part, to_word(a), to_word(b));
-    Answer {
-        number: 0,
-        yes: found.reached,
-        count: found.steps as u32,
-    }
+    judge_darts_question(table, a, b)?;
+    Ok(share::distance(table, part, to_word(a), to_word(b)))
 }
 
-// The edge, vertex or face of x into out, in walking order and x first; the count is its length.
-pub fn round(table: &[u16], orbit: Orbit, x: u32, out: &mut [u16]) -> Answer
-    ensures value { result ≡ round_answer table.now orbit x out.old }
+// The edge, vertex or face of x into out, in walking order and x first. Answers its length.
+pub fn round(table: &[u16], orbit: Orbit, x: u32, out: &mut [u16]) -> Result<u32, Refusal>
+    ensures value { count_reply result ≡ round_answer table.now orbit x out.old }
     ensures out { out.new ≡ round_leaves table.now orbit x out.old }
 {
-    let refusal = questions::dart_question_refusal(table, x);
-    if refusal != 0 {
-        return answers::refused(refusal);
-    }
+    judge_dart_question(table, x)?;
     let dart = to_word(x);
     let count = walk::orbit_length(table, orbit, dart);
     if out.len() < count as usize {
-        return answers::refused(refusals::SHORT_ROOM);
+        return Err(Refusal::ShortRoom);
     }
     walk::write_orbit(table, orbit, dart, out);
-    Answer {
-        number: 0,
-        yes: false,
-        count: count,
-    }
+    Ok(count)
 }
 
-// For each number up to the capacity the smallest dart of its component into out, 0 where there is no dart; the count
-// is the capacity.
-pub fn component_marks(table: &[u16], out: &mut [u16]) -> Answer
-    ensures value { result ≡ marks_answer table.now out.old }
+// For each number up to the capacity the smallest dart of its component into out, 0 where there is no dart. Answers the
+// capacity.
+pub fn component_marks(table: &[u16], out: &mut [u16]) -> Result<u32, Refusal>
+    ensures value { count_reply result ≡ marks_answer table.now out.old }
     ensures out { out.new ≡ marks_leaves table.now out.old }
 {
-    let refusal = table_refusal(table);
-    if refusal != 0 {
-        return answers::refused(refusal);
-    }
+    judge_table(table)?;
     let n = words::capacity_of(table);
     if out.len() < n {
-        return answers::refused(refusals::SHORT_ROOM);
+        return Err(Refusal::ShortRoom);
     }
     flood::mark_components(table, &mut out[..n]);
-    Answer {
-        number: 0,
-        yes: false,
-        count: n as u32,
-    }
+    Ok(n as u32)
 }
 
 // The words of dart x in the table, not a copy: the part returned begins at their place in the lent memory. Empty where
@@ -218,79 +186,56 @@ pub fn look<'a>(table: &'a [u16], x: u32) -> &'a [u16]
     ensures result_value { result.now ≡ look_of table.now x }
     ensures place { result.ref_ptr ≡ look_place table.now x table.entry.ref_ptr }
 {
-    let refusal = questions::darts_question_refusal(table, x, x);
-    if refusal == 0 {
-        let at = words::place_of(x, EDGE_NEXT);
-        let end = at + WORDS_PER_DART;
-        &table[at..end]
-    } else {
-        &table[..0]
+    match judge_darts_question(table, x, x) {
+        Ok(()) => {
+            let at = words::place_of(x, EDGE_NEXT);
+            &table[at..at + WORDS_PER_DART]
+        }
+        Err(_) => &table[..0],
     }
 }
 
 // TAPES
 
 // Plays a tape command by command. The first refused one stops the run, and the effect of those before it stays.
-pub fn play(table: &mut [u16], tape: &[u8]) -> Run
-    ensures value { result ≡ told_of (play_outcome table.old tape.now) }
+// Answers how many were accepted.
+pub fn play(table: &mut [u16], tape: &[u8]) -> Result<u32, Stopped>
+    ensures value { run_reply result ≡ told_of (play_outcome table.old tape.now) }
     ensures table { table.new ≡ (play_outcome table.old tape.now).state }
 {
-    if MAX_TAPE < tape.len() {
-        return Run {
-            number: refusals::WRONG_SIZE,
-            accepted: 0,
-        };
-    }
-    let refusal = table_refusal(table);
-    if refusal != 0 {
-        return Run {
-            number: refusal,
-            accepted: 0,
-        };
-    }
+    judge_tape(tape)?;
+    judge_table(table)?;
     player::play(table, tape)
 }
 
 // What a tape needs, without playing it: the least capacity at which no dart that it names is off the table, its
 // commands, the peak of puts less take-outs, and the words that it changes where all are accepted.
-pub fn tape_needs(tape: &[u8]) -> Needs
-    ensures { result ≡ needs_answer tape.now }
+pub fn tape_needs(tape: &[u8]) -> Result<Amounts, Refusal>
+    ensures { needs_in result ≡ needs_answer tape.now }
 {
-    if MAX_TAPE < tape.len() {
-        return tallying::refused(refusals::WRONG_SIZE);
-    }
+    judge_tape(tape)?;
     tallying::needs_of(tape)
 }
 
-// The canonical tape of the table into out; the count is its bytes.
-pub fn write_tape(table: &[u16], out: &mut [u8]) -> Answer
-    ensures value { result ≡ tape_answer table.now out.old }
+// The canonical tape of the table into out. Answers how many bytes it has.
+pub fn write_tape(table: &[u16], out: &mut [u8]) -> Result<u32, Refusal>
+    ensures value { count_reply result ≡ tape_answer table.now out.old }
     ensures out { out.new ≡ tape_leaves table.now out.old }
 {
-    let refusal = table_refusal(table);
-    if refusal != 0 {
-        return answers::refused(refusal);
-    }
-    let tape = write::write_tape(table, out);
-    Answer {
-        number: tape.number,
-        yes: false,
-        count: tape.count,
-    }
+    judge_table(table)?;
+    write::write_tape(table, out)
 }
 
 // The planning screen's call: plays a tape on an empty table of 4,096 darts and writes ten numbers and the rewritten
 // tape into out. include/lotskadi.h tells C what each byte is.
-pub fn screen(tape: &[u8], out: &mut [u8]) -> u8
-    ensures value { result ≡ screen_refusal tape.now out.old }
+pub fn screen(tape: &[u8], out: &mut [u8]) -> Result<(), Refusal>
+    ensures value { reply result ≡ screen_refusal tape.now out.old }
     ensures out { out.new ≡ screen_leaves tape.now out.old }
 {
-    if MAX_TAPE < tape.len() {
-        return refusals::WRONG_SIZE;
-    }
+    judge_tape(tape)?;
     if out.len() < SCREEN_ROOM {
-        return refusals::SHORT_ROOM;
+        return Err(Refusal::ShortRoom);
     }
     play_and_answer(tape, out);
-    0
+    Ok(())
 }

@@ -1,26 +1,22 @@
 // The refusal of a question about darts: the table is judged first, and then the darts that are named.
 ghost use Rattle.std.specs.Prelude.{◌≡◌, [], ◌∷◌};
+ghost use Rattle.table.specs.Replies.{reply};
 ghost use Rattle.kernel.specs.Calls.{question_refusal};
 
-use soundness::table_refusal;
+use soundness::judge_table;
 use table::changes;
+use table::refusals::Refusal;
 
-pub fn dart_question_refusal(table: &[u16], x: u32) -> u8
-    ensures { result ≡ question_refusal table.now (x ∷ []) }
+pub fn judge_dart_question(table: &[u16], x: u32) -> Result<(), Refusal>
+    ensures { reply result ≡ question_refusal table.now (x ∷ []) }
 {
-    let refusal = table_refusal(table);
-    if refusal != 0 {
-        return refusal;
-    }
-    changes::dart_refusal(table, x)
+    judge_table(table)?;
+    changes::judge_dart(table, x)
 }
 
-pub fn darts_question_refusal(table: &[u16], a: u32, b: u32) -> u8
-    ensures { result ≡ question_refusal table.now (a ∷ b ∷ []) }
+pub fn judge_darts_question(table: &[u16], a: u32, b: u32) -> Result<(), Refusal>
+    ensures { reply result ≡ question_refusal table.now (a ∷ b ∷ []) }
 {
-    let refusal = table_refusal(table);
-    if refusal != 0 {
-        return refusal;
-    }
-    changes::darts_refusal(table, a, b)
+    judge_table(table)?;
+    changes::judge_darts(table, a, b)
 }

@@ -4,22 +4,17 @@ ghost use Rattle.parts.specs.Sharing.{sharing};
 ghost use Rattle.table.specs.Inner.{WithinCapacityAtBoth};
 
 use crate::{Part, flood};
-use table::{Distance, Orbit, walk};
+use table::{Orbit, walk};
 
-pub fn distance(table: &[u16], part: Part, a: u16, b: u16) -> Distance
+// The steps, 0 in a face or a component that they share, None where they share no part.
+pub fn distance(table: &[u16], part: Part, a: u16, b: u16) -> Option<u16>
     requires { WithinCapacityAtBoth table.now a b }
     ensures { result ≡ sharing table.now part a b }
 {
     match part {
         Part::Edge => walk::distance(table, Orbit::Edge, a, b),
         Part::Vertex => walk::distance(table, Orbit::Vertex, a, b),
-        Part::Face => Distance {
-            reached: walk::distance(table, Orbit::Face, a, b).reached,
-            steps: 0,
-        },
-        Part::Component => Distance {
-            reached: flood::same_component(table, a, b),
-            steps: 0,
-        },
+        Part::Face => walk::distance(table, Orbit::Face, a, b).map(|_| 0),
+        Part::Component => flood::same_component(table, a, b).then_some(0),
     }
 }

@@ -1,18 +1,19 @@
 -- What a table has passed that is not refused, and that what has passed is not refused. Assumes nothing.
 use mathlib.Core.Path.{◌≡◌}
 use mathlib.Core.Bool.{true}
-use Prim.Native.Nat.{◌*◌, ◌%◌, ◌≤◌}
+use mathlib.Core.List.{List}
+use Prim.Native.Nat.{ℕ, ◌*◌, ◌%◌, ◌≤◌}
 use native.Mathlib.Omega.{arith}
 use lib.Dec.{eqb, leb}
 use lib.ListN.{length}
 use borrow.Author.Tests.{eqb-true, leb-true}
 use Rattle.hypermap.proofs.Basics.Bools.{and_left, and_right}
-use Rattle.table.specs.Limits.{words_per_dart, max_capacity}
+use Rattle.table.specs.Limits.{words_per_dart, max_capacity, max_tape}
 use Rattle.table.specs.Refusals.{wrong_size, bent_table, or_else, unless}
 use Rattle.table.specs.Layout.{Table, capacity, holds_hypermap}
 use Rattle.table.specs.Inner.{WithinCapacity}
 use Rattle.table.proofs.Stages.{passed, fitting}
-use Rattle.soundness.specs.Soundness.{size_fits, is_sound, table_refusal}
+use Rattle.soundness.specs.Soundness.{size_fits, is_sound, table_refusal, tape_refusal}
 
 -- THE SIZE
 pub size_room : (w : Table) → size_fits w ≡ true → capacity w ≤ max_capacity
@@ -62,3 +63,9 @@ table_within w e = let t = table_passed w e in record { hypermap = t.hypermap; r
 pub table_fits : (w : Table) → size_fits w ≡ true → is_sound w ≡ true → table_refusal w ≡ 0
 unfolding table_refusal or_else unless
 table_fits w s t = rw (s, t)
+
+-- A TAPE that is not too long
+pub tape_passed : (bs : List ℕ) → tape_refusal bs ≡ 0 → length bs ≤ max_tape
+unfolding tape_refusal
+tape_passed bs e =
+    leb-true (length bs) max_tape (fitting (leb (length bs) max_tape) wrong_size (omega arith) e)

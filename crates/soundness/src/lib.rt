@@ -1,14 +1,14 @@
-// What a caller's table must pass before all else: its size, and that it is sound. Every family of public calls begins
-// here.
+// What a caller's table and tape must pass before all else: their sizes, and that the table is sound. Every family of
+// public calls begins here.
 
 #![tactic(auto)]
 
 ghost use Rattle.std.specs.Prelude.{◌≡◌, true};
 ghost use Rattle.table.specs.Replies.{reply};
-ghost use Rattle.soundness.specs.Soundness.{size_fits, is_sound, table_refusal};
+ghost use Rattle.soundness.specs.Soundness.{size_fits, is_sound, table_refusal, tape_refusal};
 
 use table::hypermap_test::holds_hypermap;
-use table::limits::{MAX_WORDS, WORDS_PER_DART};
+use table::limits::{MAX_TAPE, MAX_WORDS, WORDS_PER_DART};
 use table::refusals::Refusal;
 
 fn size_fits(table: &[u16]) -> bool
@@ -35,4 +35,15 @@ pub fn judge_table(table: &[u16]) -> Result<(), Refusal>
         return Err(Refusal::BentTable);
     }
     Ok(())
+}
+
+// 1 for a tape that is too long.
+pub fn judge_tape(tape: &[u8]) -> Result<(), Refusal>
+    ensures { reply result ≡ tape_refusal tape.now }
+{
+    if tape.len() <= MAX_TAPE {
+        Ok(())
+    } else {
+        Err(Refusal::WrongSize)
+    }
 }

@@ -1,7 +1,9 @@
 -- A walk forward from one dart and a walk back from another, a step each in turn: their first meeting tells how far the
 -- second dart is from the first, and if one comes home before, the darts are in different orbits. Assumes nothing.
 use Rattle.std.proofs.Common.{◌≡◌, ℕ, suc, ◌+◌, ◌<◌, ◌≤◌, true, false, ltb, ◌↔◌, sym, refl, ap, ◌∙◌, add-one, arith}
-use Rattle.std.proofs.Common.{ltb-false, ltb-true}
+use Rattle.std.proofs.Common.{ltb-false, ltb-true, Bool, Some, None}
+use Rattle.std.specs.Bool.{then_some}
+use Rattle.std.specs.Option.{is_some}
 use Rattle.hypermap.specs.Hypermap.{is_hypermap, Kind, step, step_back}
 use Rattle.hypermap.specs.Laws.{iterate}
 use Rattle.hypermap.proofs.Basics.Bools.{by_cases}
@@ -12,7 +14,6 @@ use Rattle.hypermap.proofs.Laws.Distances.{meeting_law, first_meeting, home_fort
 use Rattle.table.specs.Limits.{max_capacity}
 use Rattle.table.specs.Layout.{Table, hypermap_of}
 use Rattle.table.specs.Inner.{HypermapAt, WithinCapacityAtBoth, distance_found}
-use Rattle.table.specs.declared.Distance.{Distance}
 use Rattle.table.proofs.Holding.{mem_present, table_hypermap}
 use Rattle.table.proofs.Walking.{Walks, walks_first, walks_early, walks_on, length_law}
 
@@ -21,12 +22,6 @@ record Nears (w : Table) (c : Kind) (a b x y i j : ℕ) : Type 0 where
   forth : iterate i (step (hypermap_of w) c) a ≡ x
   back : iterate j (step_back (hypermap_of w) c) b ≡ y
   none : (k : ℕ) → k < i + j → iterate k (step (hypermap_of w) c) a ≡ b → ⊥
-
-abbrev met : (steps : ℕ) → Distance
-met n = record { reached = true; steps = n }
-
-abbrev apart : Distance
-apart = record { reached = false; steps = 0 }
 
 module _ {w : Table} {a b : ℕ} (s : WithinCapacityAtBoth w a b) where
   abbrev pub first : HypermapAt w a
@@ -45,7 +40,7 @@ module _ {w : Table} {a b : ℕ} (s : WithinCapacityAtBoth w a b) where
     meets : (x ≡ y) ↔ (iterate (i + j) (step (hypermap_of w) c) a ≡ b)
     meets = rw (← g.forth, ← g.back) (meeting_law (hypermap_of w) wf c i j a b first_in second_in)
 
-    nears_met : x ≡ y → met (i + j) ≡ distance_found w c a b
+    nears_met : x ≡ y → Some (i + j) ≡ distance_found w c a b
     nears_met q =
         let r = first_meeting (hypermap_of w) wf c a b first_in second_in (i + j) g.none (meets.0 q) in
         rw (r.0, r.1)
@@ -73,11 +68,11 @@ module _ {w : Table} {a b : ℕ} (s : WithinCapacityAtBoth w a b) where
         none = λ k. none_yet (i + suc j) k (omega arith);
       }
 
-    forth_home : 1 ≤ i → x ≡ a → apart ≡ distance_found w c a b
+    forth_home : 1 ≤ i → x ≡ a → None ≡ distance_found w c a b
     forth_home l h =
         rw (home_forth (hypermap_of w) wf c a b first_in second_in (i + j) i l (omega arith) g.none (g.forth ∙ h))
 
-    back_home : 1 ≤ j → y ≡ b → apart ≡ distance_found w c a b
+    back_home : 1 ≤ j → y ≡ b → None ≡ distance_found w c a b
     back_home l h =
         rw (home_back (hypermap_of w) wf c a b first_in second_in (i + j) j l (omega arith) g.none (g.back ∙ h))
 
@@ -97,8 +92,8 @@ turns_first = record {
 }
 
 module _ {w : Table} {c : Kind} {a b x y n : ℕ} (s : WithinCapacityAtBoth w a b) (g : Turns w c a b x y n) where
-  pub turns_met : x ≡ y → met n ≡ distance_found w c a b
-  turns_met q = ap met g.counted ∙ nears_met s g.nears q
+  pub turns_met : x ≡ y → Some n ≡ distance_found w c a b
+  turns_met q = ap Some g.counted ∙ nears_met s g.nears q
 
   -- the count stays below twice the capacity
   pub turns_few : n + 2 ≤ max_capacity + max_capacity
@@ -118,18 +113,18 @@ module _ {w : Table} {c : Kind} {a b x y n : ℕ} (s : WithinCapacityAtBoth w a 
     half : Nears w c a b x v g.turns (suc g.turns)
     half = nears_back s g.nears m e
 
-    pub half_home : v ≡ b → apart ≡ distance_found w c a b
+    pub half_home : v ≡ b → None ≡ distance_found w c a b
     half_home h = back_home s half (omega arith) h
 
-    pub half_met : x ≡ v → met (n + 1) ≡ distance_found w c a b
-    half_met q = ap met (omega (arith, g.counted)) ∙ nears_met s half q
+    pub half_met : x ≡ v → Some (n + 1) ≡ distance_found w c a b
+    half_met q = ap Some (omega (arith, g.counted)) ∙ nears_met s half q
 
     -- and u is the step forward from x
     module _ {u : ℕ} (k : x ≡ v → ⊥) (f : u ≡ step (hypermap_of w) c x) where
       whole : Nears w c a b u v (suc g.turns) (suc g.turns)
       whole = nears_forth s half k f
 
-      pub turn_home : u ≡ a → apart ≡ distance_found w c a b
+      pub turn_home : u ≡ a → None ≡ distance_found w c a b
       turn_home h = forth_home s whole (omega arith) h
 
       pub turns_on : (u ≡ a → ⊥) → Turns w c a b u v (n + 2)
@@ -139,3 +134,8 @@ module _ {w : Table} {c : Kind} {a b x y n : ℕ} (s : WithinCapacityAtBoth w a 
         walk = rw (add-one) at (walks_on g.walk (first s) f h);
         nears = whole;
       }
+
+-- whether a number that stands under a test is there
+pub some_where : {A : Type 0} (t : Bool) (x : A) → is_some (then_some t x) ≡ t
+some_where true x = refl
+some_where false x = refl

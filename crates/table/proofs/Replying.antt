@@ -1,5 +1,5 @@
 -- How a reply follows from the stages of code: one that stops with a refusal, and one that goes on. Assumes nothing.
-use Rattle.std.proofs.Common.{◌≡◌, ℕ, Bool, true, false, not, Result, sym, ◌∙◌, refl, arith}
+use Rattle.std.proofs.Common.{◌≡◌, ℕ, Bool, true, false, not, Result, Err, sym, ◌∙◌, refl, arith}
 use Rattle.std.specs.Result.{IsErrAnd}
 use Rattle.std.proofs.lemmas.Result.{err_from_is_err_and}
 use Rattle.table.specs.Refusals.{or_else, unless}
@@ -29,7 +29,11 @@ pub free : (r t : Bool) (n : ℕ) → r ≡ t → r ≡ false → 0 ≡ unless (
 unfolding unless
 free r t n e f = rw (sym e ∙ f)
 
--- the exit of a `?`: what stopped the first stage is the reply
+-- the exit of a `?`: what stopped the first stage is the answer
+pub left_by : {A E : Type 0} (r : Result A E) (d : E) → IsErrAnd r (λ y. y ≡ d) → r ≡ Err d
+left_by r d q = let p = err_from_is_err_and r q in rw (p.1, p.2)
+
+-- and the reply
 pub stops :
     {A : Type 0} (r : Result A Refusal) (d : Refusal) (n m : ℕ) → IsErrAnd r (λ y. y ≡ d) → number d ≡ n →
     reply r ≡ or_else n m

@@ -54,7 +54,7 @@ fn are_together(table: &[u16], d: Dimension, a: u32, b: u32) -> bool
     requires { WithinCapacityAtBoth table.now a b }
     ensures { result ≡ is_together table.now (dimension_of d) a b }
 {
-    walk::distance(table, walk::orbit_of(d), to_word(a), to_word(b)).reached
+    walk::distance(table, walk::orbit_of(d), to_word(a), to_word(b)).is_some()
 }
 
 // WHETHER A CHANGE IS REFUSED

@@ -30,14 +30,6 @@ pub enum Orbit {
     Face,
 }
 
-// How far one dart is from another round an orbit: whether the orbit reaches it, and in how many steps, which are 0 if
-// it does not.
-#[derive(Clone, Copy)]
-pub struct Distance {
-    pub reached: bool,
-    pub steps: u16,
-}
-
 // A change of a table: a variant for each command byte that changes one, so that the dimension is known in its arm.
 // Numbers come from outside, in 32 bits; whether they name darts is judged before they become words.
 #[derive(Clone, Copy)]

@@ -9,7 +9,7 @@ ghost use Rattle.table.specs.Inner.{distance_found};
 
 use crate::limits::{EDGE_BACK, EDGE_NEXT, VERTEX_BACK, VERTEX_NEXT};
 use crate::words::{next_word, word};
-use crate::{Dimension, Distance, Orbit};
+use crate::{Dimension, Orbit};
 
 // The successor of a dart.
 pub fn next(table: &[u16], d: Dimension, x: u16) -> u16
@@ -88,12 +88,12 @@ pub fn write_orbit(table: &[u16], orbit: Orbit, x: u16, out: &mut [u16])
     }
 }
 
-// How far b is from a round an orbit. One walk goes forward from a and one back from b, a step each in turn. After n
+// How far b is from a round an orbit, None where b is not in it. One walk goes forward from a and one back from b, a step each in turn. After n
 // steps in all they are at one dart exactly if n steps lead from a to b, so their first meeting gives the distance. If
 // one of them comes home first, b is not in the orbit of a, which costs no more than the shorter orbit. The step back
 // goes first, since on a canonical tape the second dart of a join is alone. Both walks together make fewer steps than
 // twice the capacity.
-pub fn distance(table: &[u16], orbit: Orbit, a: u16, b: u16) -> Distance
+pub fn distance(table: &[u16], orbit: Orbit, a: u16, b: u16) -> Option<u16>
     requires { WithinCapacityAtBoth table.now a b }
     ensures { result ≡ distance_found table.now (kind_of orbit) a b }
 {
@@ -102,30 +102,18 @@ pub fn distance(table: &[u16], orbit: Orbit, a: u16, b: u16) -> Distance
     let mut walked: u16 = 0;
     loop {
         if x == y {
-            return Distance {
-                reached: true,
-                steps: walked,
-            };
+            return Some(walked);
         }
         y = step_back(table, orbit, y);
         if y == b {
-            return Distance {
-                reached: false,
-                steps: 0,
-            };
+            return None;
         }
         if x == y {
-            return Distance {
-                reached: true,
-                steps: walked + 1,
-            };
+            return Some(walked + 1);
         }
         x = step(table, orbit, x);
         if x == a {
-            return Distance {
-                reached: false,
-                steps: 0,
-            };
+            return None;
         }
         walked += 2;
     }

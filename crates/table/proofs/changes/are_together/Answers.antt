@@ -1,4 +1,6 @@
+use Rattle.std.proofs.Common.{◌∙◌}
 use Rattle.table.specs.Commands.{is_together}
+use Rattle.table.proofs.Meeting.{some_where}
 use Rattle.table.proofs.Reading.{number_small}
 use Rattle.table.proofs.changes.are_together.Goals as goal
 
@@ -15,4 +17,5 @@ distance-requires c =
 pub returns : goal.returns
 unfolding is_together
 returns c =
-    rw (c.distance.ensures, c.orbit_of.ensures, c.to_word.ensures, c.to_word-2.ensures)
+    c.is_some.ensures ∙ rw (c.distance.ensures, c.orbit_of.ensures, c.to_word.ensures, c.to_word-2.ensures)
+    (some_where _ _)
