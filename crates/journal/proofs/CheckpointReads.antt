@@ -1,6 +1,7 @@
 -- A checkpoint as code reads it. Assumes nothing.
-use mathlib.Core.Path.{◌≡◌, refl, ap, sym, ◌∙◌}
+use mathlib.Core.Path.{◌≡◌, refl, sym, ◌∙◌}
 use mathlib.Core.List.{List, [], ◌∷◌}
+use Rattle.std.proofs.Common.{Some, None}
 use Prim.Native.Nat.{ℕ, zero, suc, ◌≤◌, ◌<◌}
 use native.Mathlib.Omega.{arith}
 use lib.ListN.{length, get_or}
@@ -16,20 +17,26 @@ any_default [] i d e h = absurd (omega arith)
 any_default (x ∷ xs) zero d e h = refl
 any_default (x ∷ xs) (suc i) d e h = any_default xs i d e (omega arith)
 
-pub read_there :
-    (h : Head) (c i r : ℕ) → i ≡ c → i < checkpoint_count → length h.checkpoints ≡ checkpoint_count →
-    r ≡ get_or h.checkpoints i 0 → CheckpointRead h c r
-unfolding back_refusal checkpoint_of unless
-read_there h c i r e l z q =
-    let xs = h.checkpoints in
-    let a : r ≡ get_or xs c unset = q ∙ ap (λ k. get_or xs k 0) e ∙ any_default xs c 0 unset (omega arith) in
-    let t = lt-ltb c checkpoint_count (omega arith) in
-    record {
-      none = λ n. rw (t, eq-eqb (get_or xs c unset) unset (sym a ∙ n));
-      some = λ n. (rw (t, ne_eqb (get_or xs c unset) unset (λ x. n (a ∙ x))), a);
-    }
+-- a number is read where it is below the count, and set
+module _ (h : Head) (c : ℕ) where
+  pub read_set :
+      c < checkpoint_count → length h.checkpoints ≡ checkpoint_count → (get_or h.checkpoints c 0 ≡ unset → ⊥) →
+      CheckpointRead h c (Some (get_or h.checkpoints c 0))
+  unfolding back_refusal checkpoint_of unless
+  read_set l z n =
+      let xs = h.checkpoints in
+      let a = any_default xs c 0 unset (omega arith) in
+      (rw (lt-ltb c checkpoint_count l, ne_eqb (get_or xs c unset) unset (λ x. n (a ∙ x))), a)
 
-pub read_above : (h : Head) (c i : ℕ) → i ≡ c → checkpoint_count ≤ i → CheckpointRead h c unset
-unfolding back_refusal unless
-read_above h c i e l =
-    record { none = λ n. rw (le-ltb c checkpoint_count (omega arith)); some = λ n. absurd (n refl) }
+  pub read_unset :
+      c < checkpoint_count → length h.checkpoints ≡ checkpoint_count → get_or h.checkpoints c 0 ≡ unset →
+      CheckpointRead h c None
+  unfolding back_refusal checkpoint_of unless
+  read_unset l z n =
+      let xs = h.checkpoints in
+      let a = any_default xs c 0 unset (omega arith) in
+      rw (lt-ltb c checkpoint_count l, eq-eqb (get_or xs c unset) unset (sym a ∙ n))
+
+  pub read_above : checkpoint_count ≤ c → CheckpointRead h c None
+  unfolding back_refusal unless
+  read_above l = rw (le-ltb c checkpoint_count l)

@@ -1,40 +1,58 @@
 -- The entries of a ring's cuts, written one after the other. Assumes nothing.
-use mathlib.Core.Path.{◌≡◌, sym, ◌∙◌}
-use mathlib.Core.List.{List}
-use Prim.Native.Nat.{ℕ, suc, ◌+◌, ◌*◌, ◌≤◌, ◌<◌}
+use mathlib.Core.Path.{◌≡◌, refl, ap, sym, ◌∙◌}
+use mathlib.Core.List.{List, [], ◌∷◌}
+use Prim.Native.Nat.{ℕ, suc, ◌+◌, ◌*◌, ◌/◌, ◌≤◌}
 use native.Mathlib.Omega.{arith}
-use lib.ListN.{length, get_or, drop}
+use lib.ListN.{length}
+use Rattle.hypermap.specs.Ring.{DoubleLink}
+use Rattle.table.specs.Limits.{words_per_entry, max_entries}
 use Rattle.rings.specs.Rings.{links_of, cuts_of}
-use Rattle.rings.proofs.Links.{links_more, links_none}
 use Rattle.journal.specs.Entries.{Journal, with_entry, with_entries}
-use Rattle.journal.specs.Inner.{entry}
+use Rattle.journal.specs.Inner.{entry, RoomForCuts}
 use Rattle.journal.proofs.EntryWords.{entry_length}
 
--- k words of the ring are passed, n entries are used, and the journal is l
-pub record CutsWritten (j : Journal) (used : ℕ) (ws : List ℕ) (l : Journal) (n k : ℕ) : Type 0 where
-  pub at : k ≤ length ws + 1
-  pub passed : ℕ
-  pub words : k ≡ 2 * passed
-  pub count : n ≡ used + passed
+pub links_length : (ws : List ℕ) → length (links_of ws) ≡ length ws / 2
+unfolding links_of
+links_length [] = omega arith
+links_length (a ∷ []) = omega arith
+links_length (a ∷ b ∷ ws) = let i = links_length ws in omega arith
+
+cuts_long : (ls : List DoubleLink) → length (cuts_of ls) ≡ length ls
+unfolding cuts_of
+cuts_long [] = refl
+cuts_long (l ∷ ls) = ap suc (cuts_long ls)
+
+pub cuts_length : (ws : List ℕ) → length (cuts_of (links_of ws)) ≡ length ws / 2
+cuts_length ws = cuts_long (links_of ws) ∙ links_length ws
+
+-- the links ls are left to be written, n entries are used, and the journal is l
+pub record CutsWritten (j : Journal) (used : ℕ) (ws : List ℕ) (ls : List DoubleLink) (l : Journal) (n : ℕ) : Type 0 where
+  pub count : n + length ls ≡ used + length ws / 2
   pub size : length l ≡ length j
-  pub rest : with_entries j used (cuts_of (links_of ws)) ≡ with_entries l n (cuts_of (links_of (drop k ws)))
+  pub rest : with_entries j used (cuts_of (links_of ws)) ≡ with_entries l n (cuts_of ls)
 
-module _ (j : Journal) (used : ℕ) (ws : List ℕ) (l : Journal) (n k : ℕ) (i : CutsWritten j used ws l n k) where
-  pub all_written : length ws ≤ k + 1 → l ≡ with_entries j used (cuts_of (links_of ws))
-  unfolding with_entries cuts_of
-  all_written h = sym (i.rest ∙ rw (links_none ws k h))
+module _ (j : Journal) (used : ℕ) (ws : List ℕ) where
+  pub none_written : CutsWritten j used ws (links_of ws) j used
+  none_written = record { count = ap (λ k. used + k) (links_length ws); size = refl; rest = refl }
 
-  pub one_written :
-      k + 1 < length ws → (a b : ℕ) → a ≡ get_or ws k 0 → b ≡ get_or ws (k + 1) 0 → (m : Journal) →
-      m ≡ with_entry l n (entry 4 a b) → CutsWritten j used ws m (n + 1) (k + 2)
+  pub all_written : (l : Journal) (n : ℕ) → CutsWritten j used ws [] l n → l ≡ with_entries j used (cuts_of (links_of ws))
   unfolding with_entries cuts_of
-  one_written h a b p q m e =
-      let z : suc n ≡ n + 1 = omega arith in
-      rw (e, p, q) (record {
-        at = omega arith;
-        passed = suc i.passed;
-        words = omega (arith, i.words);
-        count = omega (arith, i.count);
-        size = entry_length l n (entry 4 (get_or ws k 0) (get_or ws (k + 1) 0)) ∙ i.size;
-        rest = i.rest ∙ rw (links_more ws k h, ← z);
-      })
+  all_written l n i = sym i.rest
+
+  module _ (k : DoubleLink) (ls : List DoubleLink) (l : Journal) (n : ℕ) (i : CutsWritten j used ws (k ∷ ls) l n) where
+    pub here_writable : RoomForCuts j used (length ws) → words_per_entry * n + words_per_entry ≤ length l
+    here_writable r = omega (arith, i.count, i.size, r.in_words)
+
+    pub counted : RoomForCuts j used (length ws) → n + 1 ≤ max_entries
+    counted r = omega (arith, i.count, r.in_limit)
+
+    pub one_written :
+        (m : Journal) → m ≡ with_entry l n (entry 4 k.first k.second) → CutsWritten j used ws ls m (n + 1)
+    unfolding with_entries cuts_of
+    one_written m e =
+        let z : suc n ≡ n + 1 = omega arith in
+        rw e (record {
+          count = omega (arith, i.count);
+          size = entry_length l n (entry 4 k.first k.second) ∙ i.size;
+          rest = i.rest ∙ rw (← z);
+        })

@@ -1,5 +1,5 @@
 -- A loop that changes the numbers of a list in place: the first k by f, and the others as they were. Assumes nothing.
-use mathlib.Core.Path.{◌≡◌, refl, sym, ap, ◌∙◌}
+use mathlib.Core.Path.{◌≡◌, refl, ap, ◌∙◌}
 use mathlib.Core.List.{List, [], ◌∷◌, map}
 use Prim.Native.Nat.{ℕ, zero, suc, ◌+◌, ◌<◌}
 use native.Mathlib.Omega.{arith}
@@ -32,13 +32,6 @@ module _ (f : ℕ → ℕ) where
   map_next (x ∷ xs) zero h = refl
   map_next (x ∷ xs) (suc k) h = ap (λ l. f x ∷ l) (map_next xs k (omega arith))
 
-  leave_next : (xs : List ℕ) (k : ℕ) → f (get_or xs k 0) ≡ get_or xs k 0 → mapped_to k f xs ≡ mapped_to (suc k) f xs
-  unfolding mapped_to
-  leave_next [] zero e = refl
-  leave_next [] (suc k) e = refl
-  leave_next (x ∷ xs) zero e = ap (λ y. y ∷ xs) (sym e)
-  leave_next (x ∷ xs) (suc k) e = ap (λ l. f x ∷ l) (leave_next xs k e)
-
   -- one turn of the loop, over the numbers as they are now
   module _ (xs now after : List ℕ) (k : ℕ) (h : k < length xs) (e : now ≡ mapped_to k f xs) where
     was : get_or now k 0 ≡ get_or xs k 0
@@ -49,6 +42,3 @@ module _ (f : ℕ → ℕ) where
 
     pub map_step : (v : ℕ) → v ≡ f (get_or now k 0) → after ≡ set now k v → after ≡ mapped_to (k + 1) f xs
     map_step v t q = q ∙ rw (t, was, e) (map_next xs k h) ∙ one_on
-
-    pub leave_step : f (get_or now k 0) ≡ get_or now k 0 → after ≡ now → after ≡ mapped_to (k + 1) f xs
-    leave_step t q = q ∙ e ∙ leave_next xs k (rw was at t) ∙ one_on

@@ -1,11 +1,12 @@
 -- The room of a journal: by its words and by the limit, and as one number. Assumes nothing.
 use mathlib.Core.Path.{◌≡◌, sym, ◌∙◌}
 use mathlib.Core.Bool.{true}
-use Prim.Native.Nat.{ℕ, ◌+◌, ◌*◌, ◌/◌, ◌≤◌, ◌<◌}
+use Prim.Native.Nat.{ℕ, ◌*◌, ◌/◌, ◌≤◌, min}
+use Rattle.std.proofs.Math.Nat.{min-le_left, min-le_right, le-min}
 use native.Mathlib.Omega.{arith}
-use lib.Dec.{leb, ltb}
+use lib.Dec.{leb}
 use lib.ListN.{length}
-use borrow.Author.Tests.{leb-true, le-leb, ltb-true, lt-ltb}
+use borrow.Author.Tests.{leb-true, le-leb}
 use Rattle.hypermap.proofs.Basics.Bools.{bool_ext, and_left, and_right, and_true}
 use Rattle.table.specs.Limits.{words_per_entry, max_entries}
 use Rattle.journal.specs.Entries.{Journal}
@@ -30,11 +31,12 @@ module _ (j : Journal) where
       bool_ext _ _ (λ t. let k = room_known n t in le-leb n r (most n k.0 k.1))
       (λ t. let l = leb-true n r t in room_from n (omega arith) (omega arith))
 
-  pub room_by_words : length j / words_per_entry < max_entries → IsRoom j (length j / words_per_entry)
-  room_by_words l = is_room (length j / words_per_entry) (omega arith) (omega arith) (λ n h g. omega arith)
-
-  pub room_by_limit : max_entries ≤ length j / words_per_entry → IsRoom j max_entries
-  room_by_limit l = is_room max_entries (omega arith) (omega arith) (λ n h g. g)
+  pub room_least : IsRoom j (min (length j / words_per_entry) max_entries)
+  room_least =
+      let n = length j / words_per_entry in
+      let l = min-le_left n max_entries in
+      let r = min-le_right n max_entries in
+      is_room (min n max_entries) (omega arith) r (λ k h g. le-min (omega arith) g)
 
   module _ (r : ℕ) (known : IsRoom j r) where
     pub room_left : (n : ℕ) → has_room j n ≡ true → n ≤ r
@@ -42,9 +44,3 @@ module _ (j : Journal) where
 
     pub room_is : (n : ℕ) → n ≤ r → has_room j n ≡ true
     room_is n l = known n ∙ le-leb n r l
-
-    -- one entry more
-    pub one_more_fits : (n : ℕ) → ltb n r ≡ has_room j (n + 1)
-    one_more_fits n =
-        bool_ext _ _ (λ t. let l = ltb-true n r t in room_is (n + 1) (omega arith))
-        (λ t. let l = room_left (n + 1) t in lt-ltb n r (omega arith))

@@ -1,19 +1,17 @@
 -- What the player's loop keeps of a table with its journal, beside the run. Assumes nothing.
-use mathlib.Core.Path.{◌≡◌, sym, ap, ◌∙◌}
-use Prim.Native.Nat.{ℕ, ◌+◌}
+use mathlib.Core.Path.{◌≡◌, ◌∙◌}
+use Prim.Native.Nat.{◌+◌}
 use native.Mathlib.Omega.{arith}
 use lib.ListN.{length}
 use Rattle.table.specs.Refusals.{journal_full, unless}
 use Rattle.table.specs.Layout.{Table}
-use Rattle.table.specs.Runs.{Outcome}
 use Rattle.table.proofs.Stages.{passed, fitting}
 use Rattle.tape.specs.Steps.{TapeCommand, step_refusal}
 use Rattle.tape.proofs.Running.{step_holds}
 use Rattle.journal.specs.Entries.{Journal}
 use Rattle.journal.specs.Heads.{has_room, room_refusal}
 use Rattle.journal.specs.Journaling.{Recorded, changes_in, journaled_refusal, journaled_on}
-use Rattle.journal.specs.Inner.{IsRoom, WithinJournal, added_run_of}
-use Rattle.journal.specs.declared.AddedRun.{AddedRun}
+use Rattle.journal.specs.Inner.{WithinJournal}
 use Rattle.journal.proofs.EntryWords.{entries_length}
 use Rattle.journal.proofs.Room.{room_known, room_from}
 
@@ -40,24 +38,4 @@ roomy_journal_on w₀ j₀ s c h e =
       };
       size = i.1 ∙ h.size;
       journal_size = l ∙ h.journal_size;
-    }
-
--- the room is the same as long as the words are as many
-pub same_room : (j l : Journal) (r : ℕ) → IsRoom j r → length l ≡ length j → IsRoom l r
-unfolding has_room
-same_room j l r known e n = rw e (known n)
-
--- what the player answers, by the outcome of the run
-pub told :
-    {o : Outcome Recorded} {n k : ℕ} {s : Recorded} → o ≡ record { number = n; accepted = k; state = s } →
-    record {
-      value : ◌≡◌ {A = AddedRun} (record { number = n; accepted = k; used = s.used }) (added_run_of o);
-      table : s.table ≡ o.state.table;
-      journal : s.journal ≡ o.state.journal;
-    }
-told e =
-    record {
-      value = ap added_run_of (sym e);
-      table = ap (λ o. o.state.table) (sym e);
-      journal = ap (λ o. o.state.journal) (sym e);
     }

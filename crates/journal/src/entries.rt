@@ -1,29 +1,25 @@
-// Entries written into the lent words.
-ghost use Rattle.std.specs.Prelude.{◌≡◌};
-ghost use Rattle.table.specs.Commands.{leaves};
+// Entries in the lent words, written and read.
+ghost use Rattle.std.specs.Prelude.{◌≡◌, ◌+◌, ◌*◌, ◌≤◌, false, length, MatchOption};
+ghost use Rattle.table.specs.Limits.{words_per_entry};
 ghost use Rattle.table.specs.Inner.{command_for};
-ghost use Rattle.journal.specs.Entries.{with_entry, entry_of};
-ghost use Rattle.journal.specs.Inner.{entry, Writable, WritableChange};
+ghost use Rattle.tape.specs.Tapes.{is_command};
+ghost use Rattle.tape.specs.Opcodes.{byte_for};
+ghost use Rattle.journal.specs.Entries.{with_entry, entry_of, entry_at};
+ghost use Rattle.journal.specs.Inner.{entry, WritableChange, Records};
 
 use table::Change;
 use table::limits::WORDS_PER_ENTRY;
 use table::words::to_word;
-use tape::operands;
+use tape::opcode::Opcode;
 
-pub fn to_usize(x: u32) -> usize
-    ensures { result ≡ x }
+pub fn write(journal: &mut [u16], n: u32, opcode: Opcode, a: u16, b: u16)
+    requires { words_per_entry * n + words_per_entry ≤ length journal.old }
+    ensures { journal.new ≡ with_entry journal.old n (entry (byte_for opcode) a b) }
 {
-    x as usize
-}
-
-pub fn write(journal: &mut [u16], n: u32, byte: u8, a: u32, b: u32)
-    requires { Writable journal.old n a b }
-    ensures { journal.new ≡ with_entry journal.old n (entry byte a b) }
-{
-    let at = WORDS_PER_ENTRY * to_usize(n);
-    journal[at] = byte as u16;
-    journal[at + 1] = to_word(a);
-    journal[at + 2] = to_word(b);
+    let at = WORDS_PER_ENTRY * n as usize;
+    journal[at] = u16::from(u8::from(opcode));
+    journal[at + 1] = a;
+    journal[at + 2] = b;
 }
 
 pub fn write_change(journal: &mut [u16], n: u32, change: Change)
@@ -31,24 +27,49 @@ pub fn write_change(journal: &mut [u16], n: u32, change: Change)
     ensures { journal.new ≡ with_entry journal.old n (entry_of (command_for change)) }
 {
     match change {
-        Change::Put(x) => write(journal, n, operands::PUT, x, 0),
-        Change::TakeOut(x) => write(journal, n, operands::TAKE_OUT, x, 0),
-        Change::EdgeJoin(a, b) => write(journal, n, operands::EDGE_JOIN, a, b),
-        Change::EdgeCut(a, b) => write(journal, n, operands::EDGE_CUT, a, b),
-        Change::VertexJoin(a, b) => write(journal, n, operands::VERTEX_JOIN, a, b),
-        Change::VertexCut(a, b) => write(journal, n, operands::VERTEX_CUT, a, b),
+        Change::Put(x) => write(journal, n, Opcode::Put, to_word(x), 0),
+        Change::TakeOut(x) => write(journal, n, Opcode::TakeOut, to_word(x), 0),
+        Change::EdgeJoin(a, b) => write(journal, n, Opcode::EdgeJoin, to_word(a), to_word(b)),
+        Change::EdgeCut(a, b) => write(journal, n, Opcode::EdgeCut, to_word(a), to_word(b)),
+        Change::VertexJoin(a, b) => write(journal, n, Opcode::VertexJoin, to_word(a), to_word(b)),
+        Change::VertexCut(a, b) => write(journal, n, Opcode::VertexCut, to_word(a), to_word(b)),
     }
 }
 
-// The entry of a command that has this refusal: none where it is refused.
-pub fn write_unless(journal: &mut [u16], n: u32, refusal: u8, byte: u8, a: u32, b: u32) -> u8
-    requires { refusal ≡ 0 → Writable journal.old n a b }
-    ensures value { result ≡ refusal }
-    ensures journal { journal.new ≡
-        leaves refusal (with_entry journal.old n (entry byte a b)) journal.old }
+// The opcode that a word holds, if it holds one.
+fn opcode_in(word: u16) -> Option<Opcode>
+    ensures { MatchOption result (is_command word ≡ false) (λ opcode. word ≡ byte_for opcode) }
 {
-    if refusal == 0 {
-        write(journal, n, byte, a, b);
+    let Ok(byte) = u8::try_from(word) else {
+        return None;
+    };
+    Opcode::try_from(byte).ok()
+}
+
+// The change of a byte and two operands; none where the byte is no change's, or an operand that it lacks is not 0.
+fn change_of(byte: u16, a: u32, b: u32) -> Option<Change>
+    ensures { Records (entry byte a b) result }
+{
+    match opcode_in(byte)? {
+        Opcode::Put => (b == 0).then_some(Change::Put(a)),
+        Opcode::TakeOut => (b == 0).then_some(Change::TakeOut(a)),
+        Opcode::EdgeJoin => Some(Change::EdgeJoin(a, b)),
+        Opcode::EdgeCut => Some(Change::EdgeCut(a, b)),
+        Opcode::VertexJoin => Some(Change::VertexJoin(a, b)),
+        Opcode::VertexCut => Some(Change::VertexCut(a, b)),
+        Opcode::Report | Opcode::RingCut => None,
     }
-    refusal
+}
+
+// The change that entry n records.
+pub fn change_at(journal: &[u16], n: u32) -> Option<Change>
+    requires { words_per_entry * n + words_per_entry ≤ length journal.now }
+    ensures { Records (entry_at journal.now n) result }
+{
+    let at = WORDS_PER_ENTRY * n as usize;
+    change_of(
+        journal[at],
+        u32::from(journal[at + 1]),
+        u32::from(journal[at + 2]),
+    )
 }

@@ -1,26 +1,20 @@
 // The head of a journal: whether it fits the lent words, and its checkpoints.
-ghost use Rattle.std.specs.Prelude.{◌≡◌, ◌<◌};
-ghost use Rattle.hypermap.specs.Lists.{all};
-ghost use Rattle.table.specs.Limits.{checkpoint_count};
-ghost use Rattle.journal.specs.Heads.{checkpoint_fits, head_fits, head_refusal, with_length, with_checkpoint};
+ghost use Rattle.std.specs.Prelude.{◌≡◌};
+ghost use Rattle.table.specs.Commands.{leaves};
+ghost use Rattle.table.specs.Replies.{reply};
+ghost use Rattle.journal.specs.Heads.{checkpoint_fits, head_fits, head_refusal, set_refusal, with_checkpoint};
 ghost use Rattle.journal.specs.Heads.{cut_back};
 ghost use Rattle.journal.specs.Inner.{IsRoom, CheckpointRead};
 
 use crate::Head;
-use crate::entries::to_usize;
 use table::limits::{CHECKPOINTS, MAX_ENTRIES, UNSET, WORDS_PER_ENTRY};
-use table::refusals;
+use table::refusals::Refusal;
 
 // How many entries there is room for: by the words, and by the limit.
 pub fn room_in(journal: &[u16]) -> u32
     ensures { IsRoom journal.now result }
 {
-    let n = journal.len() / WORDS_PER_ENTRY;
-    if n < MAX_ENTRIES {
-        n as u32
-    } else {
-        MAX_ENTRIES as u32
-    }
+    (journal.len() / WORDS_PER_ENTRY).min(MAX_ENTRIES) as u32
 }
 
 // Whether a checkpoint is not set, or not past the length.
@@ -30,84 +24,63 @@ fn checkpoint_fits(length: u32, checkpoint: u32) -> bool
     (checkpoint == UNSET) | (checkpoint <= length)
 }
 
-fn checkpoints_fit(checkpoints: &[u32], length: u32) -> bool
-    ensures { result ≡ all (checkpoint_fits length) checkpoints.now }
-{
-    let mut k = 0;
-    while k < checkpoints.len() {
-        if !checkpoint_fits(length, checkpoints[k]) {
-            return false;
+impl Head {
+    fn fits(&self, journal: &[u16]) -> bool
+        ensures { result ≡ head_fits journal.now self.now }
+    {
+        let length = self.length;
+        (length <= room_in(journal))
+            & self
+                .checkpoints
+                .iter()
+                .all(|checkpoint| checkpoint_fits(length, *checkpoint))
+    }
+
+    // 17 for a head that does not fit the journal.
+    pub fn judge(&self, journal: &[u16]) -> Result<(), Refusal>
+        ensures { reply result ≡ head_refusal journal.now self.now }
+    {
+        if !self.fits(journal) {
+            return Err(Refusal::UndoUnfit);
         }
-        k += 1;
+        Ok(())
     }
-    true
-}
 
-fn head_fits(journal: &[u16], head: Head) -> bool
-    ensures { result ≡ head_fits journal.now head }
-{
-    let checkpoints = head.checkpoints;
-    (head.length <= room_in(journal)) & checkpoints_fit(&checkpoints, head.length)
-}
-
-// 17 for a head that does not fit the journal, else 0.
-pub fn head_refusal(journal: &[u16], head: Head) -> u8
-    ensures { result ≡ head_refusal journal.now head }
-{
-    refusals::unless_so(head_fits(journal, head), refusals::UNDO_UNFIT)
-}
-
-// The head with n entries used, and its checkpoints.
-pub fn with_length(head: Head, n: u32) -> Head
-    ensures { result ≡ with_length n head }
-{
-    let checkpoints = head.checkpoints;
-    Head {
-        checkpoints: checkpoints,
-        length: n,
-    }
-}
-
-// The head with checkpoint c at its length.
-pub fn with_checkpoint(head: Head, c: u32) -> Head
-    requires { c < checkpoint_count }
-    ensures { result ≡ with_checkpoint c head }
-{
-    let mut checkpoints = head.checkpoints;
-    let at = to_usize(c);
-    checkpoints[at] = head.length;
-    Head {
-        checkpoints: checkpoints,
-        length: head.length,
-    }
-}
-
-// Checkpoint c; unset where it is above 15.
-pub fn checkpoint_of(head: Head, c: u32) -> u32
-    ensures { CheckpointRead head c result }
-{
-    let checkpoints = head.checkpoints;
-    let at = to_usize(c);
-    if at < CHECKPOINTS {
-        return checkpoints[at];
-    }
-    UNSET
-}
-
-// The head cut back to n entries: checkpoints past it are dropped.
-pub fn cut_back(head: Head, n: u32) -> Head
-    ensures { result ≡ cut_back n head }
-{
-    let mut checkpoints = head.checkpoints;
-    let mut k = 0;
-    while k < CHECKPOINTS {
-        if n < checkpoints[k] {
-            checkpoints[k] = UNSET;
+    // Checkpoint c; none where it is not set, or above 15.
+    pub fn checkpoint(&self, c: u32) -> Option<u32>
+        ensures { CheckpointRead self.now c result }
+    {
+        let at = c as usize;
+        if at < CHECKPOINTS && self.checkpoints[at] != UNSET {
+            Some(self.checkpoints[at])
+        } else {
+            None
         }
-        k += 1;
     }
-    Head {
-        checkpoints: checkpoints,
-        length: n,
+
+    // Checkpoint c is set at the length, or moved there.
+    pub fn set_checkpoint(&mut self, c: u32) -> Result<(), Refusal>
+        ensures value { reply result ≡ set_refusal c }
+        ensures head { self.new ≡
+            leaves (set_refusal c) (with_checkpoint c self.old) self.old }
+    {
+        let at = c as usize;
+        if CHECKPOINTS <= at {
+            return Err(Refusal::NoMark);
+        }
+        self.checkpoints[at] = self.length;
+        Ok(())
+    }
+
+    // Cut back to n entries: checkpoints past them are dropped.
+    pub fn cut_back(&mut self, n: u32)
+        ensures { self.new ≡ cut_back n self.old }
+    {
+        for checkpoint in &mut self.checkpoints {
+            if n < *checkpoint {
+                *checkpoint = UNSET;
+            }
+        }
+        self.length = n;
     }
 }

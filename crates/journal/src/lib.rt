@@ -19,26 +19,3 @@ pub struct Head {
     pub checkpoints: [u32; CHECKPOINTS],
     pub length: u32,
 }
-
-// What a journaled command answers: 0 or its refusal, and how many entries are used then.
-#[derive(Clone, Copy)]
-pub struct Added {
-    pub number: u8,
-    pub used: u32,
-}
-
-// What a journaled run answers: 0 or the refusal that stopped it, how many commands were accepted, and how many entries
-// are used then.
-#[derive(Clone, Copy)]
-pub struct AddedRun {
-    pub number: u8,
-    pub accepted: u32,
-    pub used: u32,
-}
-
-// What going back answers: 0 or 17, and how many changes were undone.
-#[derive(Clone, Copy)]
-pub struct Undos {
-    pub number: u8,
-    pub undone: u32,
-}

@@ -14,9 +14,9 @@ use Rattle.journal.specs.Heads.{back_refusal}
 use Rattle.journal.specs.Journaling.{Recorded, journaled_refusal, journaled_on, journal_rule}
 use Rattle.journal.specs.Undoing.{undoing}
 use Rattle.journal.specs.declared.Head.{Head}
-use Rattle.journal_calls.specs.declared.Journaled.{Journaled}
-use Rattle.journal_calls.specs.declared.JournaledRun.{JournaledRun}
-use Rattle.journal_calls.specs.declared.Undone.{Undone}
+use Rattle.journal_calls.specs.declared.c_replies.Journaled.{Journaled}
+use Rattle.journal_calls.specs.declared.c_replies.JournaledRun.{JournaledRun}
+use Rattle.journal_calls.specs.declared.c_replies.Undone.{Undone}
 
 -- what is lent, and the head that goes with it
 pub record State : Type 0 where

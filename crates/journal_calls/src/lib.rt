@@ -1,7 +1,6 @@
 // The public calls that bring a journal: changes, rings and tapes whose accepted changes are written into it, and named
 // states to come back to. Document 02, Job 5. None has a `requires`: whatever words are lent and whatever head comes,
-// each call answers, and its contract says what, and what every lent word is afterwards. The head comes by value, and
-// the one in the answer is for the next call.
+// each call answers, and its contract says what, and what every lent word and the head are afterwards.
 
 #![tactic(auto)]
 
@@ -9,90 +8,61 @@ ghost use Rattle.std.specs.Prelude.{◌≡◌};
 ghost use Rattle.table.specs.Layout.{Table};
 ghost use Rattle.table.specs.Commands.{puts, takes_out, joins, cuts};
 ghost use Rattle.table.specs.Inner.{dimension_of, command_for};
+ghost use Rattle.table.specs.Replies.{reply};
 ghost use Rattle.tape.specs.Steps.{changes, cuts_ring};
+ghost use Rattle.tape.specs.Runs.{told_of};
+ghost use Rattle.tape.specs.Replies.{run_reply};
 ghost use Rattle.journal_calls.specs.Calls.{state_of, perform_reply, play_reply, checkpoint_reply, back_reply};
-ghost use Rattle.journal_calls.specs.Calls.{journaled_of, journaled_run_of, undone_of};
 
+pub mod c_replies;
 mod judging;
 
 pub use journal::Head;
-use journal::{adding, heads, run, undo};
-use table::limits::{CHECKPOINTS, MAX_TAPE, UNSET};
-use table::{Change, Dimension, refusals};
-
-// What a journaled change or ring answers, and setting a checkpoint: 0 or the refusal, and the head to bring next time,
-// which after a refusal is the one that came.
-#[repr(C)]
-#[derive(Clone, Copy)]
-pub struct Journaled {
-    pub number: u8,
-    pub head: Head,
-}
-
-// What a journaled run answers: 0 or the refusal that stopped it, how many commands were accepted, and the head to
-// bring next time.
-#[repr(C)]
-#[derive(Clone, Copy)]
-pub struct JournaledRun {
-    pub number: u8,
-    pub accepted: u32,
-    pub head: Head,
-}
-
-// What going back answers: 0 or the refusal that stopped it, how many changes were undone, and the head to bring next
-// time.
-#[repr(C)]
-#[derive(Clone, Copy)]
-pub struct Undone {
-    pub number: u8,
-    pub undone: u32,
-    pub head: Head,
-}
+use journal::{adding, run, undo};
+use judging::judge_state;
+use table::limits::MAX_TAPE;
+use table::refusals::Refusal;
+use table::{Change, Dimension};
+use tape::Stopped;
 
 // CHANGES: one call makes them all; the others name one change each.
 
-pub fn make_change(table: &mut [u16], journal: &mut [u16], head: Head, change: Change) -> Journaled
-    ensures value { result ≡ journaled_of (perform_reply
-        (state_of table.old journal.old head) (changes (command_for change))) }
-    ensures table { table.new ≡ (perform_reply
-        (state_of table.old journal.old head) (changes (command_for change))).state.table }
-    ensures journal { journal.new ≡ (perform_reply
-        (state_of table.old journal.old head) (changes (command_for change))).state.journal }
+pub fn make_change(
+    table: &mut [u16],
+    journal: &mut [u16],
+    head: &mut Head,
+    change: Change,
+) -> Result<(), Refusal>
+    ensures value { reply result ≡
+        (perform_reply (state_of table.old journal.old head.old) (changes (command_for change))).number }
+    ensures state { state_of table.new journal.new head.new ≡
+        (perform_reply (state_of table.old journal.old head.old) (changes (command_for change))).state }
 {
-    let refusal = judging::state_refusal(table, journal, head);
-    if refusal != 0 {
-        return Journaled {
-            number: refusal,
-            head: head,
-        };
-    }
-    let added = adding::add_change(table, journal, head.length, change);
-    Journaled {
-        number: added.number,
-        head: heads::with_length(head, added.used),
-    }
+    judge_state(table, journal, head)?;
+    adding::add_change(table, journal, &mut head.length, change)
 }
 
 // Dart x appears, an edge and a vertex by itself.
-pub fn put(table: &mut [u16], journal: &mut [u16], head: Head, x: u32) -> Journaled
-    ensures value { result ≡ journaled_of (perform_reply
-        (state_of table.old journal.old head) (changes (puts x))) }
-    ensures table { table.new ≡ (perform_reply
-        (state_of table.old journal.old head) (changes (puts x))).state.table }
-    ensures journal { journal.new ≡ (perform_reply
-        (state_of table.old journal.old head) (changes (puts x))).state.journal }
+pub fn put(table: &mut [u16], journal: &mut [u16], head: &mut Head, x: u32) -> Result<(), Refusal>
+    ensures value { reply result ≡
+        (perform_reply (state_of table.old journal.old head.old) (changes (puts x))).number }
+    ensures state { state_of table.new journal.new head.new ≡
+        (perform_reply (state_of table.old journal.old head.old) (changes (puts x))).state }
 {
     make_change(table, journal, head, Change::Put(x))
 }
 
 // Dart x disappears, which is an edge and a vertex by itself.
-pub fn take_out(table: &mut [u16], journal: &mut [u16], head: Head, x: u32) -> Journaled
-    ensures value { result ≡ journaled_of (perform_reply
-        (state_of table.old journal.old head) (changes (takes_out x))) }
-    ensures table { table.new ≡ (perform_reply
-        (state_of table.old journal.old head) (changes (takes_out x))).state.table }
-    ensures journal { journal.new ≡ (perform_reply
-        (state_of table.old journal.old head) (changes (takes_out x))).state.journal }
+pub fn take_out(
+    table: &mut [u16],
+    journal: &mut [u16],
+    head: &mut Head,
+    x: u32,
+) -> Result<(), Refusal>
+    ensures value { reply result ≡
+        (perform_reply (state_of table.old journal.old head.old) (changes (takes_out x))).number }
+    ensures state { state_of table.new journal.new head.new ≡
+        (perform_reply (state_of table.old journal.old head.old) (changes (takes_out x))).state }
 {
     make_change(table, journal, head, Change::TakeOut(x))
 }
@@ -101,19 +71,15 @@ pub fn take_out(table: &mut [u16], journal: &mut [u16], head: Head, x: u32) -> J
 pub fn join(
     table: &mut [u16],
     journal: &mut [u16],
-    head: Head,
+    head: &mut Head,
     d: Dimension,
     a: u32,
     b: u32,
-) -> Journaled
-    ensures value { result ≡ journaled_of (perform_reply
-        (state_of table.old journal.old head) (changes (joins (dimension_of d) a b))) }
-    ensures table { table.new ≡ (perform_reply
-        (state_of table.old journal.old head) (changes (joins (dimension_of d) a b))
-        ).state.table }
-    ensures journal { journal.new ≡ (perform_reply
-        (state_of table.old journal.old head) (changes (joins (dimension_of d) a b))
-        ).state.journal }
+) -> Result<(), Refusal>
+    ensures value { reply result ≡
+        (perform_reply (state_of table.old journal.old head.old) (changes (joins (dimension_of d) a b))).number }
+    ensures state { state_of table.new journal.new head.new ≡
+        (perform_reply (state_of table.old journal.old head.old) (changes (joins (dimension_of d) a b))).state }
 {
     match d {
         Dimension::Edge => make_change(table, journal, head, Change::EdgeJoin(a, b)),
@@ -125,19 +91,15 @@ pub fn join(
 pub fn cut(
     table: &mut [u16],
     journal: &mut [u16],
-    head: Head,
+    head: &mut Head,
     d: Dimension,
     a: u32,
     b: u32,
-) -> Journaled
-    ensures value { result ≡ journaled_of (perform_reply
-        (state_of table.old journal.old head) (changes (cuts (dimension_of d) a b))) }
-    ensures table { table.new ≡ (perform_reply
-        (state_of table.old journal.old head) (changes (cuts (dimension_of d) a b))
-        ).state.table }
-    ensures journal { journal.new ≡ (perform_reply
-        (state_of table.old journal.old head) (changes (cuts (dimension_of d) a b))
-        ).state.journal }
+) -> Result<(), Refusal>
+    ensures value { reply result ≡
+        (perform_reply (state_of table.old journal.old head.old) (changes (cuts (dimension_of d) a b))).number }
+    ensures state { state_of table.new journal.new head.new ≡
+        (perform_reply (state_of table.old journal.old head.old) (changes (cuts (dimension_of d) a b))).state }
 {
     match d {
         Dimension::Edge => make_change(table, journal, head, Change::EdgeCut(a, b)),
@@ -147,109 +109,71 @@ pub fn cut(
 
 // A RING, lent as a list of words. The entries of all its cuts fit, or nothing changes.
 
-pub fn ring_cut(table: &mut [u16], journal: &mut [u16], head: Head, ring: &[u16]) -> Journaled
-    ensures value { result ≡ journaled_of (perform_reply
-        (state_of table.old journal.old head) (cuts_ring ring.now)) }
-    ensures table { table.new ≡ (perform_reply
-        (state_of table.old journal.old head) (cuts_ring ring.now)).state.table }
-    ensures journal { journal.new ≡ (perform_reply
-        (state_of table.old journal.old head) (cuts_ring ring.now)).state.journal }
+pub fn ring_cut(
+    table: &mut [u16],
+    journal: &mut [u16],
+    head: &mut Head,
+    ring: &[u16],
+) -> Result<(), Refusal>
+    ensures value { reply result ≡
+        (perform_reply (state_of table.old journal.old head.old) (cuts_ring ring.now)).number }
+    ensures state { state_of table.new journal.new head.new ≡
+        (perform_reply (state_of table.old journal.old head.old) (cuts_ring ring.now)).state }
 {
-    let refusal = judging::state_refusal(table, journal, head);
-    if refusal != 0 {
-        return Journaled {
-            number: refusal,
-            head: head,
-        };
-    }
-    let added = adding::add_ring(table, journal, head.length, ring);
-    Journaled {
-        number: added.number,
-        head: heads::with_length(head, added.used),
-    }
+    judge_state(table, journal, head)?;
+    adding::add_ring(table, journal, &mut head.length, ring)
 }
 
 // A TAPE, command by command. The first refused one stops the run; those before it stay, with their entries.
 
-pub fn play(table: &mut [u16], journal: &mut [u16], head: Head, tape: &[u8]) -> JournaledRun
-    ensures value { result ≡ journaled_run_of
-        (play_reply (state_of table.old journal.old head) tape.now) }
-    ensures table { table.new ≡
-        (play_reply (state_of table.old journal.old head) tape.now).state.table }
-    ensures journal { journal.new ≡
-        (play_reply (state_of table.old journal.old head) tape.now).state.journal }
+pub fn play(
+    table: &mut [u16],
+    journal: &mut [u16],
+    head: &mut Head,
+    tape: &[u8],
+) -> Result<u32, Stopped>
+    ensures value { run_reply result ≡
+        told_of (play_reply (state_of table.old journal.old head.old) tape.now) }
+    ensures state { state_of table.new journal.new head.new ≡
+        (play_reply (state_of table.old journal.old head.old) tape.now).state }
 {
     if MAX_TAPE < tape.len() {
-        return JournaledRun {
-            number: refusals::WRONG_SIZE,
-            accepted: 0,
-            head: head,
-        };
+        return Err(Refusal::WrongSize.into());
     }
-    let refusal = judging::state_refusal(table, journal, head);
-    if refusal != 0 {
-        return JournaledRun {
-            number: refusal,
-            accepted: 0,
-            head: head,
-        };
-    }
-    let ran = run::run_tape(table, journal, head.length, tape);
-    JournaledRun {
-        number: ran.number,
-        accepted: ran.accepted,
-        head: heads::with_length(head, ran.used),
-    }
+    judge_state(table, journal, head)?;
+    run::run_tape(table, journal, &mut head.length, tape)
 }
 
 // NAMED STATES
 
 // Sets checkpoint c at the head's length, or moves it there. No table is lent, so the answer is the same for any.
-pub fn set_checkpoint(journal: &[u16], head: Head, c: u32) -> Journaled
-    ensures { (w : Table) → result ≡ journaled_of (checkpoint_reply (state_of w journal.now head) c) }
+pub fn set_checkpoint(journal: &[u16], head: &mut Head, c: u32) -> Result<(), Refusal>
+    ensures value { (w : Table) → reply result ≡
+        (checkpoint_reply (state_of w journal.now head.old) c).number }
+    ensures head { (w : Table) → state_of w journal.now head.new ≡
+        (checkpoint_reply (state_of w journal.now head.old) c).state }
 {
-    let known = refusals::unless_so(c < CHECKPOINTS as u32, refusals::NO_MARK);
-    let refusal = refusals::or_else(heads::head_refusal(journal, head), known);
-    if refusal != 0 {
-        return Journaled {
-            number: refusal,
-            head: head,
-        };
-    }
-    Journaled {
-        number: 0,
-        head: heads::with_checkpoint(head, c),
-    }
+    head.judge(journal)?;
+    head.set_checkpoint(c)
 }
 
 // Goes back to checkpoint c: undoes the changes since then, the latest first, and drops the checkpoints set later. An
-// entry that is no change, or that cannot be undone, stops it by 17; what was undone before stays undone.
-pub fn go_back(table: &mut [u16], journal: &[u16], head: Head, c: u32) -> Undone
-    ensures value { result ≡ undone_of (back_reply (state_of table.old journal.now head) c) }
-    ensures table { table.new ≡
-        (back_reply (state_of table.old journal.now head) c).state.table }
+// entry that is no change, or that cannot be undone, stops it by 17; what was undone before stays undone. Answers how
+// many changes were undone.
+pub fn go_back(table: &mut [u16], journal: &[u16], head: &mut Head, c: u32) -> Result<u32, Stopped>
+    ensures value { run_reply result ≡
+        told_of (back_reply (state_of table.old journal.now head.old) c) }
+    ensures state { state_of table.new journal.now head.new ≡
+        (back_reply (state_of table.old journal.now head.old) c).state }
 {
-    let refusal = judging::state_refusal(table, journal, head);
-    if refusal != 0 {
-        return Undone {
-            number: refusal,
-            undone: 0,
-            head: head,
-        };
-    }
-    let to = heads::checkpoint_of(head, c);
-    if to == UNSET {
-        return Undone {
-            number: refusals::NO_MARK,
-            undone: 0,
-            head: head,
-        };
-    }
+    judge_state(table, journal, head)?;
+    let to = head.checkpoint(c).ok_or(Refusal::NoMark)?;
     let used = head.length;
-    let undos = undo::undo_back(table, journal, used, to);
-    Undone {
-        number: undos.number,
-        undone: undos.undone,
-        head: heads::cut_back(head, used - undos.undone),
-    }
+    let went = undo::undo_back(table, journal, used, to);
+    let undone = match went {
+        Ok(undone) => undone,
+        Err(stopped) => stopped.accepted,
+    };
+    head.cut_back(used - undone);
+    went
 }

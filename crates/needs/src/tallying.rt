@@ -40,7 +40,7 @@ impl Tally {
         match change {
             Change::Put(x) => {
                 Tally {
-                    peak: self.peak + 1u32.saturating_sub(self.below),
+                    peak: self.peak + u32::from(self.below == 0),
                     below: self.below.saturating_sub(1),
                     ..self.one_more(x, 1)
                 }

@@ -1,6 +1,6 @@
 // Edges, counted. Nearly all have at most two darts, and are known by a successor that is the predecessor too. Such an
 // edge is counted at its smaller dart, without a mark and without a branch, so that no order of darts makes it slower.
-ghost use Rattle.std.specs.Prelude.{◌≡◌, cond, ◌<◌, leb};
+ghost use Rattle.std.specs.Prelude.{◌≡◌, cond, ◌<◌};
 ghost use Rattle.hypermap.specs.Hypermap.{edges};
 ghost use Rattle.table.specs.Limits.{max_word};
 ghost use Rattle.parts.specs.Inner.{MarkingAt, MarkedSet, marked_in, is_tallied, EdgeLeft};

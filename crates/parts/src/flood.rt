@@ -62,7 +62,8 @@ pub fn flood(table: &[u16], x: u16, value: u16, marks: &mut [u16], queue: &mut [
     count
 }
 
-// The number of components, with the marks of all darts.
+// The number of components, with the marks of all darts. The pass is that of `mark_orbits`; one for both would take a
+// closure, and a contract of what that marks, which is longer than the pass.
 pub fn mark_components(table: &[u16], marks: &mut [u16]) -> u32
     requires { Marking table.now marks.old }
     ensures value { result ≡ components (hypermap_of table.now) }

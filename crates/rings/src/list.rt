@@ -20,11 +20,15 @@ pub fn is_list(ring: &[u16]) -> bool
 pub fn judge_words(table: &[u16], ring: &[u16]) -> Result<(), Refusal>
     ensures { reply result ≡ presence_refusal table.now ring.now }
 {
-    if !ring.iter().all(|x| words::is_number(table, u32::from(*x))) {
-        return Err(Refusal::OffTheTable);
+    for &x in ring {
+        if !words::is_number(table, u32::from(x)) {
+            return Err(Refusal::OffTheTable);
+        }
     }
-    if !ring.iter().all(|x| words::is_present(table, u32::from(*x))) {
-        return Err(Refusal::NoTab);
+    for &x in ring {
+        if !words::is_present(table, u32::from(x)) {
+            return Err(Refusal::NoTab);
+        }
     }
     Ok(())
 }
@@ -33,5 +37,10 @@ pub fn judge_words(table: &[u16], ring: &[u16]) -> Result<(), Refusal>
 pub fn pairs_differ(links: &[[u16; 2]]) -> bool
     ensures { result ≡ pairs_differ (links_in links.now) }
 {
-    links.iter().all(|[first, second]| first != second)
+    for [first, second] in links {
+        if first == second {
+            return false;
+        }
+    }
+    true
 }

@@ -26,6 +26,10 @@ pub fn pairs_together(table: &[u16], links: &[[u16; 2]], marks: &mut [u16]) -> b
     ensures { result ≡ pairs_together (hypermap_of table.now) (links_in links.now) }
 {
     mark_firsts(table, links, marks);
-    links.iter().all(|&[first, second]| marks::mark_of(marks, first)
-        == marks::mark_of(marks, second))
+    for &[first, second] in links {
+        if marks::mark_of(marks, first) != marks::mark_of(marks, second) {
+            return false;
+        }
+    }
+    true
 }

@@ -53,7 +53,8 @@ pub fn write_bytes(out: &mut [u8], at: usize, bytes: &[u8]) -> usize
     end
 }
 
-// PARTS of the tape
+// PARTS of the tape. The buffer and the place in it are passed apart: of a struct that held both, each contract would
+// have to say besides that it still holds the same buffer.
 
 // Every dart is put.
 fn write_puts(table: &[u16], out: &mut [u8]) -> usize

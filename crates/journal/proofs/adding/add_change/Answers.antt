@@ -1,41 +1,30 @@
 use Rattle.std.proofs.Common.{refl, arith}
-use Rattle.table.specs.Inner.{command_for}
+use Rattle.table.proofs.Replying.{number_positive, exits}
 use Rattle.journal.specs.Entries.{with_entries}
-use Rattle.journal.specs.Inner.{WithRoom}
-use Rattle.journal.proofs.Additions.{change_refusal, change_accepts, change_writable, room_for_one, refused_adds}
-use Rattle.journal.proofs.Additions.{made_adds}
+use Rattle.journal.proofs.Additions.{own_refuses, room_refuses, both_accept, room_given, change_accepts}
+use Rattle.journal.proofs.Additions.{change_writable}
 use Rattle.journal.proofs.adding.add_change.Goals as goal
 
-pub returns-then-refusal-ne0 : goal.returns-then-refusal-ne0
-returns-then-refusal-ne0 c =
-    refused_adds _ _ _
-    (change_refusal _ _ _ _ (record { within = c.requires; known = c.room_in.ensures }) (command_for c.args.change) _
-    c.refusal_of.ensures _ c.or_full-refusal.ensures) c.if-refusal-ne0.true
+pub returns-in_err-judge : goal.returns-in_err-judge
+returns-in_err-judge c =
+    rw (exits _ _ c.from_residual.ensures.1) (own_refuses _ _ _ c.in_err-judge.ensures (number_positive _))
+
+pub returns-in_err-judge_room : goal.returns-in_err-judge_room
+returns-in_err-judge_room c =
+    rw (exits _ _ c.from_residual-in_err-judge_room.ensures.1)
+    (room_refuses _ _ c.in_ok-judge.ensures _ c.in_err-judge_room.ensures (number_positive _))
 
 pub write-requires : goal.write-requires
-write-requires c =
-    change_accepts _ _ _ _ (record { within = c.requires; known = c.room_in.ensures }) (command_for c.args.change) _
-    c.refusal_of.ensures _ c.or_full-refusal.ensures c.if-refusal-ne0.false
+write-requires c = change_accepts _ _ _ c.requires _ c.in_ok-judge.ensures
 
 pub write_change-requires : goal.write_change-requires
-write_change-requires c =
-    change_writable _ _ _ _ (record { within = c.requires; known = c.room_in.ensures }) (command_for c.args.change) _
-    c.refusal_of.ensures _ c.or_full-refusal.ensures c.if-refusal-ne0.false
+write_change-requires c = change_writable _ _ _ c.requires _ c.in_ok-judge.ensures c.in_ok-judge_room.ensures
 
-pub overflow_add-result : goal.overflow_add-result
-overflow_add-result c =
-    let k : WithRoom c.args.table.now c.args.journal.now c.args.used c.room_in.result =
-    record { within = c.requires; known = c.room_in.ensures } in
-    omega (
-      arith,
-      (room_for_one _ _ _ _ k (command_for c.args.change) _ c.refusal_of.ensures _ c.or_full-refusal.ensures
-          c.if-refusal-ne0.false).1,
-    )
+pub overflow_add-used : goal.overflow_add-used
+overflow_add-used c = omega (arith, (room_given _ _ 1 c.in_ok-judge_room.ensures).1)
 
 pub returns : goal.returns
 unfolding with_entries
 returns c =
-    made_adds _ _ _
-    (change_refusal _ _ _ _ (record { within = c.requires; known = c.room_in.ensures }) (command_for c.args.change) _
-    c.refusal_of.ensures _ c.or_full-refusal.ensures) c.if-refusal-ne0.false _ refl _ c.write.ensures _
-    c.write_change.ensures
+    both_accept _ _ c.in_ok-judge.ensures c.in_ok-judge_room.ensures _
+    (rw (c.write.ensures, c.write_change.ensures) refl)

@@ -1,11 +1,28 @@
-use Rattle.std.proofs.Common.{arith}
-use Rattle.journal.proofs.CutEntries.{one_written, all_written}
+use Rattle.std.proofs.Common.{[], arith}
+use Rattle.std.proofs.lemmas.List.{drop_more, drop_all}
+use Rattle.rings.proofs.Links.{chunks_links}
+use Rattle.journal.proofs.CutEntries.{none_written, here_writable, counted, one_written, all_written}
 use Rattle.journal.proofs.adding.write_cuts.Goals as goal
 
-pub loop-k-preserved : goal.loop-k-preserved
-loop-k-preserved c =
-    one_written _ _ _ _ _ _ c.loop-k.invariant (omega arith) _ _ c.to_number.ensures c.to_number-in-loop-k.ensures _
-    c.write.ensures
+pub loop-first-init : goal.loop-first-init
+loop-first-init c = rw (c.as_chunks.ensures.front, chunks_links c.args.ring.now) (none_written _ _ _)
+
+pub write-requires : goal.write-requires
+write-requires c =
+    let more = drop_more c.as_chunks.result.0.now c.loop-first.first-index [] (omega arith) in
+    here_writable _ _ _ _ _ _ _ (rw more at c.loop-first.invariant) c.requires
+
+pub overflow_add-n : goal.overflow_add-n
+overflow_add-n c =
+    let more = drop_more c.as_chunks.result.0.now c.loop-first.first-index [] (omega arith) in
+    omega (arith, counted _ _ _ _ _ _ _ (rw more at c.loop-first.invariant) c.requires)
+
+pub loop-first-preserved : goal.loop-first-preserved
+loop-first-preserved c =
+    let more = drop_more c.as_chunks.result.0.now c.loop-first.first-index [] (omega arith) in
+    one_written _ _ _ _ _ _ _ (rw more at c.loop-first.invariant) _ c.write.ensures
 
 pub returns : goal.returns
-returns c = all_written _ _ _ _ _ _ c.loop-k.invariant (omega arith)
+returns c =
+    let none = drop_all c.loop-first.first-index c.as_chunks.result.0.now (omega arith) in
+    all_written _ _ _ _ _ (rw none at c.loop-first.invariant)

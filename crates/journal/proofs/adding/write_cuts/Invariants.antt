@@ -1,9 +1,8 @@
-use Rattle.std.proofs.Common.{◌+◌, ◌-◌, length}
+use Rattle.std.proofs.Common.{drop}
+use Rattle.rings.specs.Inner.{links_in}
 use Rattle.journal.proofs.CutEntries.{CutsWritten}
 use Rattle.journal.proofs.adding.write_cuts.Given as goal
 
-abbrev pub invariant-loop-k : goal.invariant-loop-k
-invariant-loop-k l = CutsWritten l.initial.journal l.used l.ring l.journal l.n l.k
-
-abbrev pub decreases-loop-k : goal.decreases-loop-k
-decreases-loop-k l = length l.ring + 1 - l.k
+abbrev pub invariant-loop-first : goal.invariant-loop-first
+invariant-loop-first l =
+    CutsWritten l.initial.journal l.used l.ring (links_in (drop l.first-index l.links)) l.journal l.n

@@ -3,6 +3,3 @@ use Rattle.journal.proofs.undo.undo_back.Given as goal
 
 abbrev pub invariant-loop-n : goal.invariant-loop-n
 invariant-loop-n l = Going l.initial.table l.journal l.used l.to l.table l.n
-
-abbrev pub decreases-loop-n : goal.decreases-loop-n
-decreases-loop-n l = l.n

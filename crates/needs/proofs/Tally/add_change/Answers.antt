@@ -1,5 +1,9 @@
-use Rattle.std.proofs.Common.{refl, arith}
+use Rattle.std.proofs.Common.{◌≡◌, ℕ, ◌+◌, ◌-◌, ap, refl, arith}
 use mathlib.Core.Path.{sym, ◌∙◌}
+use lib.Dec.{eqb}
+use mir.Val.{bool_byte}
+use borrow.Author.Tests.{eqb-true, eqb-false}
+use Rattle.hypermap.proofs.Basics.Bools.{by_cases}
 use mathlib.Core.Logic.{⊎_elim}
 use Rattle.hypermap.specs.Hypermap.{edge, vertex}
 use Rattle.table.specs.Commands.{puts, takes_out}
@@ -9,12 +13,18 @@ use Rattle.needs.proofs.Greatest.{max_larger, larger_zero}
 use Rattle.needs.proofs.Tallies.{added_by, added_swap}
 use Rattle.needs.proofs.Tally.add_change.Goals as goal
 
+one_at_zero : (b : ℕ) → bool_byte (eqb b 0) ≡ 1 - b
+one_at_zero b =
+    by_cases (eqb b 0) (λ t. let e = eqb-true b 0 t in rw t (omega arith))
+    (λ f. let d = eqb-false b 0 f in rw f (omega arith))
+
 pub returns-in-Put : goal.returns-in-Put
 unfolding greatest
 returns-in-Put c =
     let x = c.in-Put.x in
     rw (c.in-Put.is, c.one_more.ensures)
-    (added_by c.args.self (changes (puts x)) x _ _ 1 (sym (larger_zero x)) (omega arith) (omega arith) refl)
+    (added_by c.args.self (changes (puts x)) x _ _ 1 (sym (larger_zero x))
+    (ap (λ n. c.args.self.peak + n) (c.from.ensures ∙ one_at_zero c.args.self.below)) (omega arith) refl)
 
 pub returns-in-TakeOut : goal.returns-in-TakeOut
 unfolding greatest

@@ -1,10 +1,7 @@
-use Rattle.std.proofs.Common.{rules, ◌≡◌, ◌∙◌, eqb, take}
-use Rattle.std.specs.List.{count_by}
+use Rattle.std.proofs.Common.{arith}
+use Rattle.std.proofs.lemmas.Grind.{common_steps}
 use Rattle.parts.proofs.MarkedSets.{count_set}
 use Rattle.parts.proofs.count.count_marked.Goals as goal
 
 pub returns : goal.returns
-returns c =
-    let e : c.count.result ≡ count_by (λ u. eqb u c.args.value) (take c.capacity_of-n.result c.args.marks.now) =
-    search rules in
-    rw c.capacity_of-n.ensures at e ∙ count_set _ _ _ c.requires
+returns c = grind (arith, common_steps, count_set _ _ _ c.requires)

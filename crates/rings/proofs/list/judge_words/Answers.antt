@@ -1,37 +1,35 @@
-use Rattle.std.proofs.Common.{◌∙◌, arith, rules, tests}
-use Rattle.std.proofs.lemmas.Iterator.{YieldsList-from_slice}
-use Rattle.std.proofs.lemmas.Iterator.Search.{all_from_yields_List}
-use Rattle.table.specs.Layout.{is_number, is_present}
+use Rattle.std.proofs.Common.{sym, ◌∙◌, refl, arith}
 use Rattle.table.specs.Commands.{presence_refusal}
 use Rattle.table.proofs.Stages.{stage_stop, stage_on}
 use Rattle.table.proofs.Replying.{fails, holds}
-use Rattle.rings.proofs.Tests.{words_all}
+use Rattle.rings.proofs.Asking.{asking_stop, asking_on, asking_all}
 use Rattle.rings.proofs.list.judge_words.Goals as goal
 
-pub returns-then-not-all : goal.returns-then-not-all
+pub returns-then-not-is_number : goal.returns-then-not-is_number
 unfolding presence_refusal
-returns-then-not-all c =
-    let a = c.args in
-    let r = all_from_yields_List (is_number a.table.now) _ _ _ c.all.ensures.ran
-    (YieldsList-from_slice a.ring.now cc) (λ x b q k. search (rules, tests)) in
-    stage_stop _ _ _ _ (omega arith) (r ∙ words_all _ _) c.if-not-all.true
+returns-then-not-is_number c =
+    let n = rw c.from.ensures at (sym c.is_number.ensures ∙ c.if-not-is_number.true) in
+    stage_stop _ _ _ _ (omega arith) refl (asking_stop _ _ _ c.loop-x.invariant (omega arith) n)
 
-pub returns-then-not-all-2 : goal.returns-then-not-all-2
+pub loop-x-preserved : goal.loop-x-preserved
+loop-x-preserved c =
+    let t = rw c.from.ensures at (sym c.is_number.ensures ∙ c.if-not-is_number.false) in
+    asking_on _ _ _ c.loop-x.invariant (omega arith) t
+
+pub returns-then-not-is_present : goal.returns-then-not-is_present
 unfolding presence_refusal
-returns-then-not-all-2 c =
-    let a = c.args in
-    let r = all_from_yields_List (is_number a.table.now) _ _ _ c.all.ensures.ran
-    (YieldsList-from_slice a.ring.now cc) (λ x b q k. search (rules, tests)) in
-    let s = all_from_yields_List (is_present a.table.now) _ _ _ c.all-2.ensures.ran
-    (YieldsList-from_slice a.ring.now cc) (λ x b q k. search (rules, tests)) in
-    stage_on _ _ _ _ _ (r ∙ words_all _ _) c.if-not-all.false (fails _ _ _ (s ∙ words_all _ _) c.if-not-all-2.true)
+returns-then-not-is_present c =
+    let n = rw c.from-in-loop-x-2.ensures at (sym c.is_present.ensures ∙ c.if-not-is_present.true) in
+    stage_on _ _ _ _ _ refl (asking_all _ _ _ c.loop-x.invariant c.loop-x-test.false)
+    (fails _ _ _ refl (asking_stop _ _ _ c.loop-x-2.invariant (omega arith) n))
+
+pub loop-x-2-preserved : goal.loop-x-2-preserved
+loop-x-2-preserved c =
+    let t = rw c.from-in-loop-x-2.ensures at (sym c.is_present.ensures ∙ c.if-not-is_present.false) in
+    asking_on _ _ _ c.loop-x-2.invariant (omega arith) t
 
 pub returns : goal.returns
 unfolding presence_refusal
 returns c =
-    let a = c.args in
-    let r = all_from_yields_List (is_number a.table.now) _ _ _ c.all.ensures.ran
-    (YieldsList-from_slice a.ring.now cc) (λ x b q k. search (rules, tests)) in
-    let s = all_from_yields_List (is_present a.table.now) _ _ _ c.all-2.ensures.ran
-    (YieldsList-from_slice a.ring.now cc) (λ x b q k. search (rules, tests)) in
-    stage_on _ _ _ _ _ (r ∙ words_all _ _) c.if-not-all.false (holds _ _ _ (s ∙ words_all _ _) c.if-not-all-2.false)
+    stage_on _ _ _ _ _ refl (asking_all _ _ _ c.loop-x.invariant c.loop-x-test.false)
+    (holds _ _ _ refl (asking_all _ _ _ c.loop-x-2.invariant c.loop-x-2-test.false))

@@ -1,11 +1,19 @@
-use Rattle.std.proofs.Common.{◌∙◌, not, eqb, rules, tests}
-use Rattle.std.proofs.lemmas.Iterator.{YieldsList-from_slice}
-use Rattle.std.proofs.lemmas.Iterator.Search.{all_from_yields_List}
-use Rattle.rings.specs.Inner.{link_of}
-use Rattle.rings.proofs.Tests.{links_all}
+use Rattle.std.proofs.Common.{sym, ap, not, [], eq-eqb, ne_eqb, arith}
+use Rattle.std.proofs.lemmas.List.{drop_more, drop_all}
+use Rattle.rings.proofs.Asking.{links_stop, links_on, links_all}
 use Rattle.rings.proofs.list.pairs_differ.Goals as goal
+
+pub returns-then-first-second : goal.returns-then-first-second
+returns-then-first-second c =
+    let more = drop_more c.args.links.now c.loop-first.first-index [] (omega arith) in
+    sym (links_stop _ _ _ _ (rw more at c.loop-first.invariant) (ap not (eq-eqb _ _ c.if-first-second.true)))
+
+pub loop-first-preserved : goal.loop-first-preserved
+loop-first-preserved c =
+    let more = drop_more c.args.links.now c.loop-first.first-index [] (omega arith) in
+    links_on _ _ _ _ (rw more at c.loop-first.invariant) (ap not (ne_eqb _ _ c.if-first-second.false))
 
 pub returns : goal.returns
 returns c =
-    all_from_yields_List (λ p. let l = link_of p in not (eqb l.first l.second)) _ _ _ c.all.ensures.ran
-    (YieldsList-from_slice c.args.links.now cc) (λ x b q k. search (rules, tests)) ∙ links_all _ _
+    let none = drop_all c.loop-first.first-index c.args.links.now (omega arith) in
+    sym (links_all _ _ (rw none at c.loop-first.invariant))

@@ -1,25 +1,37 @@
-use Rattle.std.proofs.Common.{◌∙◌, eqb, rules, tests}
-use Rattle.std.proofs.lemmas.Iterator.{YieldsList-from_slice}
-use Rattle.std.proofs.lemmas.Iterator.Search.{all_from_yields_List}
-use Rattle.std.proofs.lemmas.Iterator.Adapters.{serves_from_places}
-use Rattle.parts.specs.Inner.{mark_at}
-use Rattle.rings.specs.Inner.{link_of}
-use Rattle.rings.proofs.Tests.{links_all}
+use Rattle.std.proofs.Common.{sym, ◌∙◌, [], eq-eqb, ne_eqb, arith}
+use Rattle.std.proofs.lemmas.List.{drop_more, drop_all}
+use Rattle.rings.proofs.Asking.{links_stop, links_on, links_all}
 use Rattle.rings.proofs.Pairs.{marks_tell, pair_marks}
 use Rattle.rings.proofs.together.pairs_together.Goals as goal
 
-pub all-requires-clause-callable : goal.all-requires-clause-callable
-all-requires-clause-callable c =
-    serves_from_places (YieldsList-from_slice c.args.links.now cc) (λ x q k. search rules) (λ x k h e.
+pub loop-first-init : goal.loop-first-init
+loop-first-init c = sym (marks_tell _ _ _ c.requires.darts c.mark_firsts.ensures)
+
+pub mark_of-requires : goal.mark_of-requires
+mark_of-requires c =
     let p = c.requires in
-    let b = pair_marks _ _ c.args.links.now p.darts (c.mark_firsts.auto.marks ∙ p.size) x.now k h e in
-    let first = b.0 in
-    let second = b.1 in
-    search rules)
+    let n = c.mark_firsts.auto.marks ∙ p.size in
+    (pair_marks _ _ c.args.links.now p.darts n c.loop-first.first-index (omega arith)).0
+
+pub mark_of-requires-in-loop-first : goal.mark_of-requires-in-loop-first
+mark_of-requires-in-loop-first c =
+    let p = c.requires in
+    let n = c.mark_firsts.auto.marks ∙ p.size in
+    (pair_marks _ _ c.args.links.now p.darts n c.loop-first.first-index (omega arith)).1
+
+pub returns-then-mark_of : goal.returns-then-mark_of
+returns-then-mark_of c =
+    let more = drop_more c.args.links.now c.loop-first.first-index [] (omega arith) in
+    sym (links_stop _ _ _ _ (rw more at c.loop-first.invariant)
+    (ne_eqb _ _ (λ e. c.if-mark_of.true (c.mark_of.ensures ∙ e ∙ sym c.mark_of-in-loop-first.ensures))))
+
+pub loop-first-preserved : goal.loop-first-preserved
+loop-first-preserved c =
+    let more = drop_more c.args.links.now c.loop-first.first-index [] (omega arith) in
+    links_on _ _ _ _ (rw more at c.loop-first.invariant)
+    (eq-eqb _ _ (sym c.mark_of.ensures ∙ c.if-mark_of.false ∙ c.mark_of-in-loop-first.ensures))
 
 pub returns : goal.returns
 returns c =
-    let m = c.mark_firsts.new.marks in
-    all_from_yields_List (λ p. let l = link_of p in eqb (mark_at m l.first) (mark_at m l.second)) _ _ _
-    c.all.ensures.ran (YieldsList-from_slice c.args.links.now cc) (λ x b q k. search (rules, tests)) ∙
-    links_all _ _ ∙ marks_tell _ _ _ c.requires.darts c.mark_firsts.ensures
+    let none = drop_all c.loop-first.first-index c.args.links.now (omega arith) in
+    sym (links_all _ _ (rw none at c.loop-first.invariant))
