@@ -1,5 +1,6 @@
-// The public calls for C, thin: each passes on what it is lent to a call of the kernel, under the prefix lotskadi_. The
-// dimension and the part stand in the name, since C has no such enums. include/lotskadi.h declares them.
+// The public calls for C, thin: each passes on what it is lent to a call of the kernel, under the prefix lotskadi_, and
+// tells its answer in a number or in a struct of C. The dimension and the part stand in the name, since C has no such
+// enums. include/lotskadi.h declares them.
 
 #![tactic(auto)]
 
@@ -18,6 +19,7 @@ ghost use Rattle.kernel.specs.Tapes.{screen_refusal, screen_leaves};
 pub mod journals;
 
 use kernel::{Answer, Dimension, Needs, Orbit, Part, Run, Totals};
+use table::refusals::number_of;
 
 // CHANGES
 
@@ -26,7 +28,7 @@ pub extern "C" fn lotskadi_put(table: &mut [u16], x: u32) -> u8
     ensures value { result ≡ call_refusal table.old (puts x) }
     ensures table { table.new ≡ call_leaves table.old (puts x) }
 {
-    kernel::put(table, x)
+    number_of(kernel::put(table, x))
 }
 
 #[unsafe(no_mangle)]
@@ -34,7 +36,7 @@ pub extern "C" fn lotskadi_take_out(table: &mut [u16], x: u32) -> u8
     ensures value { result ≡ call_refusal table.old (takes_out x) }
     ensures table { table.new ≡ call_leaves table.old (takes_out x) }
 {
-    kernel::take_out(table, x)
+    number_of(kernel::take_out(table, x))
 }
 
 #[unsafe(no_mangle)]
@@ -42,7 +44,7 @@ pub extern "C" fn lotskadi_edge_join(table: &mut [u16], a: u32, b: u32) -> u8
     ensures value { result ≡ call_refusal table.old (joins edge a b) }
     ensures table { table.new ≡ call_leaves table.old (joins edge a b) }
 {
-    kernel::join(table, Dimension::Edge, a, b)
+    number_of(kernel::join(table, Dimension::Edge, a, b))
 }
 
 #[unsafe(no_mangle)]
@@ -50,7 +52,7 @@ pub extern "C" fn lotskadi_vertex_join(table: &mut [u16], a: u32, b: u32) -> u8
     ensures value { result ≡ call_refusal table.old (joins vertex a b) }
     ensures table { table.new ≡ call_leaves table.old (joins vertex a b) }
 {
-    kernel::join(table, Dimension::Vertex, a, b)
+    number_of(kernel::join(table, Dimension::Vertex, a, b))
 }
 
 #[unsafe(no_mangle)]
@@ -58,7 +60,7 @@ pub extern "C" fn lotskadi_edge_cut(table: &mut [u16], a: u32, b: u32) -> u8
     ensures value { result ≡ call_refusal table.old (cuts edge a b) }
     ensures table { table.new ≡ call_leaves table.old (cuts edge a b) }
 {
-    kernel::cut(table, Dimension::Edge, a, b)
+    number_of(kernel::cut(table, Dimension::Edge, a, b))
 }
 
 #[unsafe(no_mangle)]
@@ -66,7 +68,7 @@ pub extern "C" fn lotskadi_vertex_cut(table: &mut [u16], a: u32, b: u32) -> u8
     ensures value { result ≡ call_refusal table.old (cuts vertex a b) }
     ensures table { table.new ≡ call_leaves table.old (cuts vertex a b) }
 {
-    kernel::cut(table, Dimension::Vertex, a, b)
+    number_of(kernel::cut(table, Dimension::Vertex, a, b))
 }
 
 #[unsafe(no_mangle)]
@@ -74,7 +76,7 @@ pub extern "C" fn lotskadi_ring_cut(table: &mut [u16], ring: &[u16]) -> u8
     ensures value { result ≡ ring_call_refusal table.old ring.now }
     ensures table { table.new ≡ ring_call_leaves table.old ring.now }
 {
-    kernel::ring_cut(table, ring)
+    number_of(kernel::ring_cut(table, ring))
 }
 
 // QUESTIONS
@@ -83,42 +85,42 @@ pub extern "C" fn lotskadi_ring_cut(table: &mut [u16], ring: &[u16]) -> u8
 pub extern "C" fn lotskadi_report(table: &[u16]) -> Totals
     ensures { result ≡ report_of table.now }
 {
-    kernel::report(table)
+    kernel::report(table).into()
 }
 
 #[unsafe(no_mangle)]
 pub extern "C" fn lotskadi_component_report(table: &[u16], x: u32) -> Totals
     ensures { result ≡ component_report_of table.now x }
 {
-    kernel::component_report(table, x)
+    kernel::component_report(table, x).into()
 }
 
 #[unsafe(no_mangle)]
 pub extern "C" fn lotskadi_same_edge(table: &[u16], a: u32, b: u32) -> Answer
     ensures { result ≡ same_answer table.now part.Edge a b }
 {
-    kernel::same(table, Part::Edge, a, b)
+    kernel::same(table, Part::Edge, a, b).into()
 }
 
 #[unsafe(no_mangle)]
 pub extern "C" fn lotskadi_same_vertex(table: &[u16], a: u32, b: u32) -> Answer
     ensures { result ≡ same_answer table.now part.Vertex a b }
 {
-    kernel::same(table, Part::Vertex, a, b)
+    kernel::same(table, Part::Vertex, a, b).into()
 }
 
 #[unsafe(no_mangle)]
 pub extern "C" fn lotskadi_same_face(table: &[u16], a: u32, b: u32) -> Answer
     ensures { result ≡ same_answer table.now part.Face a b }
 {
-    kernel::same(table, Part::Face, a, b)
+    kernel::same(table, Part::Face, a, b).into()
 }
 
 #[unsafe(no_mangle)]
 pub extern "C" fn lotskadi_same_component(table: &[u16], a: u32, b: u32) -> Answer
     ensures { result ≡ same_answer table.now part.Component a b }
 {
-    kernel::same(table, Part::Component, a, b)
+    kernel::same(table, Part::Component, a, b).into()
 }
 
 #[unsafe(no_mangle)]
@@ -126,7 +128,7 @@ pub extern "C" fn lotskadi_edge_round(table: &[u16], x: u32, out: &mut [u16]) ->
     ensures value { result ≡ round_answer table.now orbit.Edge x out.old }
     ensures out { out.new ≡ round_leaves table.now orbit.Edge x out.old }
 {
-    kernel::round(table, Orbit::Edge, x, out)
+    kernel::round(table, Orbit::Edge, x, out).into()
 }
 
 #[unsafe(no_mangle)]
@@ -134,7 +136,7 @@ pub extern "C" fn lotskadi_vertex_round(table: &[u16], x: u32, out: &mut [u16]) 
     ensures value { result ≡ round_answer table.now orbit.Vertex x out.old }
     ensures out { out.new ≡ round_leaves table.now orbit.Vertex x out.old }
 {
-    kernel::round(table, Orbit::Vertex, x, out)
+    kernel::round(table, Orbit::Vertex, x, out).into()
 }
 
 #[unsafe(no_mangle)]
@@ -142,7 +144,7 @@ pub extern "C" fn lotskadi_face_round(table: &[u16], x: u32, out: &mut [u16]) ->
     ensures value { result ≡ round_answer table.now orbit.Face x out.old }
     ensures out { out.new ≡ round_leaves table.now orbit.Face x out.old }
 {
-    kernel::round(table, Orbit::Face, x, out)
+    kernel::round(table, Orbit::Face, x, out).into()
 }
 
 #[unsafe(no_mangle)]
@@ -150,7 +152,7 @@ pub extern "C" fn lotskadi_component_marks(table: &[u16], out: &mut [u16]) -> An
     ensures value { result ≡ marks_answer table.now out.old }
     ensures out { out.new ≡ marks_leaves table.now out.old }
 {
-    kernel::component_marks(table, out)
+    kernel::component_marks(table, out).into()
 }
 
 // TAPES
@@ -160,14 +162,14 @@ pub extern "C" fn lotskadi_play(table: &mut [u16], tape: &[u8]) -> Run
     ensures value { result ≡ told_of (play_outcome table.old tape.now) }
     ensures table { table.new ≡ (play_outcome table.old tape.now).state }
 {
-    kernel::play(table, tape)
+    kernel::play(table, tape).into()
 }
 
 #[unsafe(no_mangle)]
 pub extern "C" fn lotskadi_tape_needs(tape: &[u8]) -> Needs
     ensures { result ≡ needs_answer tape.now }
 {
-    kernel::tape_needs(tape)
+    kernel::tape_needs(tape).into()
 }
 
 #[unsafe(no_mangle)]
@@ -175,7 +177,7 @@ pub extern "C" fn lotskadi_write_tape(table: &[u16], out: &mut [u8]) -> Answer
     ensures value { result ≡ tape_answer table.now out.old }
     ensures out { out.new ≡ tape_leaves table.now out.old }
 {
-    kernel::write_tape(table, out)
+    kernel::write_tape(table, out).into()
 }
 
 #[unsafe(no_mangle)]
@@ -183,5 +185,5 @@ pub extern "C" fn lotskadi_screen(tape: &[u8], out: &mut [u8]) -> u8
     ensures value { result ≡ screen_refusal tape.now out.old }
     ensures out { out.new ≡ screen_leaves tape.now out.old }
 {
-    kernel::screen(tape, out)
+    number_of(kernel::screen(tape, out))
 }

@@ -1,5 +1,5 @@
 -- A ring of records as a list of words. Assumes nothing: these are definitions.
-use Rattle.std.specs.Prelude.{◌≡◌, cond, List, [], ◌∷◌, ℕ, ◌*◌, ltb, length, take}
+use Rattle.std.specs.Prelude.{cond, List, [], ◌∷◌, ℕ, ltb}
 use Rattle.table.specs.Limits.{max_double_links}
 use Rattle.records.specs.declared.DoubleLink.{DoubleLink}
 
@@ -11,7 +11,3 @@ words_of (l ∷ ls) = l.first ∷ l.second ∷ words_of ls
 -- how many of n double-links are copied
 unfoldable pub fitted : ℕ → ℕ
 fitted n = cond (ltb max_double_links n) 0 n
-
--- the words of those that are copied come first
-abbrev pub BeginsWith : (words : List ℕ) → List DoubleLink → Type 0
-BeginsWith ws ls = take (2 * fitted (length ls)) ws ≡ words_of (take (fitted (length ls)) ls)

@@ -1,8 +1,9 @@
-// A ring lent as records: its words are copied into a local array, and `ring_cut` is lent that.
+// A ring lent as records: its words are copied into a local array, and `ring_cut` is lent them.
 
 #![tactic(auto)]
 
 ghost use Rattle.std.specs.Prelude.{◌≡◌};
+ghost use Rattle.table.specs.Replies.{reply};
 ghost use Rattle.kernel.specs.Calls.{ring_call_refusal, ring_call_leaves};
 ghost use Rattle.tape.specs.Steps.{cuts_ring};
 ghost use Rattle.journal_calls.specs.Calls.{state_of, perform_reply, journaled_of};
@@ -10,7 +11,10 @@ ghost use Rattle.records.specs.Records.{words_of};
 
 mod flatten;
 
+use flatten::flatten;
 use journal_calls::{Head, Journaled};
+use kernel::{Refusal, ring_cut};
+use table::limits::MAX_DOUBLE_LINKS;
 
 // A double-link of a ring. Document 01: a crossing, with its first and second tab.
 #[derive(Clone, Copy)]
@@ -20,11 +24,12 @@ pub struct DoubleLink {
 }
 
 // The break along a ring: what `ring_cut` answers and leaves for its words.
-pub fn ring_cut_records(table: &mut [u16], ring: &[DoubleLink]) -> u8
-    ensures value { result ≡ ring_call_refusal table.old (words_of ring.now) }
+pub fn ring_cut_records(table: &mut [u16], ring: &[DoubleLink]) -> Result<(), Refusal>
+    ensures value { reply result ≡ ring_call_refusal table.old (words_of ring.now) }
     ensures table { table.new ≡ ring_call_leaves table.old (words_of ring.now) }
 {
-    flatten::cut_front(table, flatten::flatten(ring), ring.len())
+    let mut pairs = [[0; 2]; MAX_DOUBLE_LINKS];
+    ring_cut(table, flatten(ring, &mut pairs))
 }
 
 // The same with a journal: what `journal_calls::ring_cut` answers and leaves for its words.
@@ -43,5 +48,6 @@ pub fn journal_ring_cut_records(
         (state_of table.old journal.old head) (cuts_ring (words_of ring.now))
         ).state.journal }
 {
-    flatten::journal_cut_front(table, journal, head, flatten::flatten(ring), ring.len())
+    let mut pairs = [[0; 2]; MAX_DOUBLE_LINKS];
+    journal_calls::ring_cut(table, journal, head, flatten(ring, &mut pairs))
 }

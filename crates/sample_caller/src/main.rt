@@ -3,7 +3,7 @@
 
 #![tactic(auto)]
 
-use kernel::{Dimension, join, look, put};
+use kernel::{Dimension, Refusal, join, look, put};
 use records::{DoubleLink, ring_cut_records};
 use std::io;
 use table::limits::WORDS_PER_DART;
@@ -12,17 +12,16 @@ use table::limits::WORDS_PER_DART;
 const WORDS: usize = 5 * WORDS_PER_DART;
 
 // What a change or a ring cut answered, at the end of its line.
-fn write_reply(rt: &impl Print, reply: u8) -> io::Result<()> {
-    if reply == 0 {
-        println!(rt; ": ok")
-    } else {
-        println!(rt; ": refused {reply}")
+fn write_answer(rt: &impl Print, answer: Result<(), Refusal>) -> io::Result<()> {
+    match answer {
+        Ok(()) => println!(rt; ": ok"),
+        Err(refusal) => println!(rt; ": refused {}", u8::from(refusal)),
     }
 }
 
 fn tell_put(rt: &impl Print, table: &mut [u16], x: u32) -> io::Result<()> {
     print!(rt; "put {x}")?;
-    write_reply(rt, put(table, x))
+    write_answer(rt, put(table, x))
 }
 
 fn tell_join(rt: &impl Print, table: &mut [u16], d: Dimension, a: u32, b: u32) -> io::Result<()> {
@@ -30,7 +29,7 @@ fn tell_join(rt: &impl Print, table: &mut [u16], d: Dimension, a: u32, b: u32) -
         Dimension::Edge => print!(rt; "tie join {a} {b}")?,
         Dimension::Vertex => print!(rt; "cell join {a} {b}")?,
     }
-    write_reply(rt, join(table, d, a, b))
+    write_answer(rt, join(table, d, a, b))
 }
 
 fn write_words(rt: &impl Print, words: &[u16]) -> io::Result<()> {
@@ -51,7 +50,7 @@ fn tell_look(rt: &impl Print, table: &[u16], x: u32) -> io::Result<()> {
 }
 
 // The ring, lent as a slice of records.
-fn cut(table: &mut [u16], ring: [DoubleLink; 2]) -> u8 {
+fn cut(table: &mut [u16], ring: [DoubleLink; 2]) -> Result<(), Refusal> {
     ring_cut_records(table, &ring)
 }
 
@@ -65,7 +64,7 @@ fn tell_cut(rt: &impl Print, table: &mut [u16], a: u16, b: u16, c: u16, d: u16) 
         first: c,
         second: d,
     };
-    write_reply(rt, cut(table, [first, second]))
+    write_answer(rt, cut(table, [first, second]))
 }
 
 fn build_square(rt: &impl Print, table: &mut [u16]) -> io::Result<()> {

@@ -1,25 +1,18 @@
-use Rattle.std.proofs.Common.{ℕ, arith, refl, length-set}
-use Rattle.std.proofs.lemmas.List.{length-replicate}
-use Rattle.table.specs.Limits.{max_ring}
-use Rattle.records.specs.Records.{words_of}
-use Rattle.records.proofs.Words.{fitted_few, fitted_within, grows}
+use Rattle.std.proofs.Common.{arith, sym, ◌∙◌}
+use Rattle.std.proofs.lemmas.List.{length-take-le}
+use Rattle.records.proofs.Words.{copied_none, copied_on, copied_words}
 use Rattle.records.proofs.flatten.flatten.Goals as goal
 
-pub loop-i-init : goal.loop-i-init
-unfolding words_of
-loop-i-init c = record {
-  few = omega (arith, fitted_few);
-  within = omega (arith, fitted_within);
-  size = length-replicate {A = ℕ} max_ring 0;
-  begun = omega arith;
-  words = refl;
-}
+pub loop-k-init : goal.loop-k-init
+loop-k-init c = copied_none _ _ c.told-pairs
 
-pub loop-i-preserved : goal.loop-i-preserved
-loop-i-preserved c = record {
-  few = c.loop-i.invariant.few;
-  within = c.loop-i.invariant.within;
-  size = simp length-set c.loop-i.invariant.size;
-  begun = omega arith;
-  words = grows _ _ _ _ (omega arith) (omega arith) c.loop-i.invariant.words;
-}
+pub loop-k-preserved : goal.loop-k-preserved
+loop-k-preserved c =
+    let n = length-take-le _ _ c.fit-n.ensures.within in
+    copied_on _ _ _ _ c.loop-k.invariant c.loop-k-test.true (omega (arith, c.fit-n.ensures.few))
+
+pub returns : goal.returns
+returns c =
+    let n = length-take-le _ _ c.fit-n.ensures.within in
+    rw (← c.fit-n.ensures.value) (c.as_flattened.ensures.value ∙
+    copied_words _ _ _ _ c.loop-k.invariant (omega arith) (sym n))
