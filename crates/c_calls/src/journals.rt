@@ -167,7 +167,11 @@ pub extern "C" fn lotskadi_journal_play(
 // NAMED STATES
 
 #[unsafe(no_mangle)]
-pub extern "C" fn lotskadi_set_checkpoint(journal: &[u16], mut head: Head, checkpoint: u32) -> Journaled
+pub extern "C" fn lotskadi_set_checkpoint(
+    journal: &[u16],
+    mut head: Head,
+    checkpoint: u32,
+) -> Journaled
     ensures { (w : Table) →
         result ≡ journaled_of (checkpoint_reply (state_of w journal.now head) checkpoint) }
 {

@@ -15,6 +15,7 @@ use table::{Change, changes as table_changes};
 use tape::opcode::Opcode;
 
 // 18 where n entries more do not fit.
+#[inline(always)]
 fn judge_room(journal: &[u16], used: u32, n: usize) -> Result<(), Refusal>
     requires { has_room journal.now used ≡ true }
     ensures { reply result ≡ room_refusal journal.now used n }
@@ -26,6 +27,7 @@ fn judge_room(journal: &[u16], used: u32, n: usize) -> Result<(), Refusal>
     Ok(())
 }
 
+#[inline(always)]
 pub fn add_change(
     table: &mut [u16],
     journal: &mut [u16],

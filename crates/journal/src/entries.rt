@@ -22,6 +22,7 @@ pub fn write(journal: &mut [u16], n: u32, opcode: Opcode, a: u16, b: u16)
     journal[at + 2] = b;
 }
 
+#[inline(always)]
 pub fn write_change(journal: &mut [u16], n: u32, change: Change)
     requires { WritableChange journal.old n (command_for change) }
     ensures { journal.new ≡ with_entry journal.old n (entry_of (command_for change)) }

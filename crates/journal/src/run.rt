@@ -33,6 +33,7 @@ fn add_tape_ring(
 }
 
 // One command of a tape. A report is accepted, changes nothing and has no entry.
+#[inline(always)]
 fn add_step(
     table: &mut [u16],
     journal: &mut [u16],
@@ -52,6 +53,7 @@ fn add_step(
 }
 
 // The first command of a tape, read and carried out. Answers how many bytes it has.
+#[inline(always)]
 fn add_first(
     table: &mut [u16],
     journal: &mut [u16],

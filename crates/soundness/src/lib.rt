@@ -25,6 +25,7 @@ fn is_sound(table: &[u16]) -> bool
 }
 
 // 1 for a wrong size, 2 for a table that is not sound.
+#[inline(never)]
 pub fn judge_table(table: &[u16]) -> Result<(), Refusal>
     ensures { reply result ≡ table_refusal table.now }
 {

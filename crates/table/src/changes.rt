@@ -107,6 +107,7 @@ pub fn judge_cut(table: &[u16], d: Dimension, a: u32, b: u32) -> Result<(), Refu
     Ok(())
 }
 
+#[inline(always)]
 pub fn judge(table: &[u16], change: Change) -> Result<(), Refusal>
     requires { WithinCapacity table.now }
     ensures { reply result ≡ command_refusal table.now (command_for change) }
@@ -137,6 +138,7 @@ fn write_swap(table: &mut [u16], d: Dimension, a: u32, b: u32)
     store::swap(table, d, to_word(a), to_word(b));
 }
 
+#[inline(always)]
 pub fn write(table: &mut [u16], change: Change)
     requires { Accepts table.old (command_for change) }
     ensures { table.new ≡ command_on table.old (command_for change) }
@@ -151,14 +153,40 @@ pub fn write(table: &mut [u16], change: Change)
     }
 }
 
-// BOTH IN TURN
+// BOTH IN TURN, for a run of many changes. It goes by arms, in which the dimension is known, so that the compiler judges
+// the kind of a change once; a call for a single change asks `judge`, and then `write`.
 
+#[inline(always)]
 pub fn perform(table: &mut [u16], change: Change) -> Result<(), Refusal>
     requires { WithinCapacity table.old }
     ensures value { reply result ≡ command_refusal table.old (command_for change) }
     ensures table { table.new ≡ command_leaves table.old (command_for change) }
 {
-    judge(table, change)?;
-    write(table, change);
+    match change {
+        Change::Put(x) => {
+            judge_put(table, x)?;
+            write_all(table, x, x);
+        }
+        Change::TakeOut(x) => {
+            judge_take_out(table, x)?;
+            write_all(table, x, 0);
+        }
+        Change::EdgeJoin(a, b) => {
+            judge_join(table, Dimension::Edge, a, b)?;
+            write_swap(table, Dimension::Edge, a, b);
+        }
+        Change::EdgeCut(a, b) => {
+            judge_cut(table, Dimension::Edge, a, b)?;
+            write_swap(table, Dimension::Edge, a, b);
+        }
+        Change::VertexJoin(a, b) => {
+            judge_join(table, Dimension::Vertex, a, b)?;
+            write_swap(table, Dimension::Vertex, a, b);
+        }
+        Change::VertexCut(a, b) => {
+            judge_cut(table, Dimension::Vertex, a, b)?;
+            write_swap(table, Dimension::Vertex, a, b);
+        }
+    }
     Ok(())
 }

@@ -71,6 +71,7 @@ fn ring(tape: &[u8]) -> Result<(Instruction, usize), Refusal>
 
 // The first command, with the number of its bytes. Its operands are numbers here, whatever they are. Each arm reads as
 // many as its command has, which the compiler knows; small as it is, it goes into the loop of whoever reads a tape.
+#[inline(always)]
 pub fn read(tape: &[u8]) -> Result<(Instruction, usize), Refusal>
     ensures { Reads tape.now result }
 {
