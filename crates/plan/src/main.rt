@@ -1,79 +1,79 @@
 // Plays standard input on an empty table of 4,096 darts and writes a line for each command: `ok`, the report of 07, or
-// `refused` and the number, and then it ends. Document 01, "Plans to check". What is written is proved by buffers
-// (`playing`), and then of any writer (`write_run`); reading, and a tape that is too long, are all that is left here.
+// `refused` and the number, and then it ends. Document 01, "Plans to check". What is written is proved of any writer
+// (`write_run`); reading, the writer's buffer, and a tape that is too long, are all that is left here.
 
 #![tactic(auto)]
 
-ghost use Rattle.std.specs.Prelude.{◌≤◌, length, IfOk, OnOk};
+ghost use Rattle.std.specs.Prelude.{◌≡◌, OnOk, MatchResult};
 ghost use Rattle.std.specs.Io.KnownBytes.{Appends};
+ghost use Rattle.table.specs.Inner.{WithinCapacity};
+ghost use Rattle.tape.specs.Runs.{run_of};
 ghost use Rattle.plan.specs.Lines.{lines_of};
-ghost use Rattle.plan.specs.Inner.{Ready};
+ghost use Rattle.plan.specs.Inner.{Takes, Accepts, Refuses};
 
-use std::io::{self, Read, Write};
+use std::io::{self, BufWriter, Read, Write};
 use table::limits::{MAX_TAPE, MAX_WORDS};
 use table::refusals;
+use tape::{Instruction, Reading, decode, operands, step};
 
-mod playing;
 mod text;
 
 // One byte more than a tape may have, so that a longer one shows.
-const READ_BYTES: usize = MAX_TAPE + 1;
+const READ_BYTES: u64 = MAX_TAPE as u64 + 1;
 
-// A stretch of a run: the bytes of lines in the buffer; whether the run has ended with it; and if not, the bytes of the
-// tape that were read.
-#[derive(Clone, Copy)]
-pub struct Stretch {
-    pub written: usize,
-    pub ended: bool,
-    pub read: usize,
-}
-
-// Stretch by stretch, each written before the next is played.
-fn write_run<W: Write>(
-    lines: &mut W,
+// Makes the first command of a tape on the table, and answers it with the number of its bytes, or its refusal. The
+// inner step keeps the table within the capacity, so the table is not judged again for each command.
+fn take_command(
     table: &mut [u16],
     tape: &[u8],
-    out: &mut [u8],
-) -> io::Result<()>
-    requires { Ready table.old out.old }
-    ensures { OnOk result (Appends (W.contents lines.old) (W.contents lines.new)
-        (lines_of table.old tape.now)) }
+    operand_bytes: &[u8; 9],
+) -> Result<(Instruction, usize), u8>
+    requires { Takes table.old tape.now operand_bytes.now }
+    ensures { MatchResult result
+        (λ a. Accepts table.old tape.now a.0 a.1 table.new)
+        (λ n. Refuses table.old tape.now n table.new) }
 {
-    let mut rest = tape;
-    loop {
-        let stretch = playing::play_stretch(table, rest, out);
-        lines.write_all(&out[..stretch.written])?;
-        if stretch.ended {
-            return Ok(());
-        }
-        rest = &rest[stretch.read..];
+    let (instruction, size) = match decode::read(tape, operand_bytes) {
+        Reading::Whole(instruction, size) => (instruction, size),
+        Reading::Refused(refusal) => return Err(refusal),
+    };
+    let refusal = step::take_step(table, tape, instruction);
+    if refusal != 0 {
+        return Err(refusal);
     }
+    Ok((instruction, size))
 }
 
-// Reads until the buffer is full or the input ends, and answers how many bytes came.
-fn read_full<R: Read>(input: &mut R, bytes: &mut [u8]) -> io::Result<usize>
-    ensures { IfOk result (λ n. n ≤ length bytes.new) }
+// A line for each command, up to the first that is refused.
+fn write_run<W: Write>(lines: &mut W, table: &mut [u16], tape: &[u8]) -> io::Result<()>
+    requires { WithinCapacity table.old }
+    ensures lines { OnOk result (Appends (W.contents lines.old) (W.contents lines.new)
+        (lines_of table.old tape.now)) }
+    ensures table { OnOk result (table.new ≡ (run_of table.old tape.now).state) }
 {
-    let mut n = 0;
-    while n < bytes.len() {
-        let read = input.read(&mut bytes[n..])?;
-        if read == 0 {
-            return Ok(n);
+    let operand_bytes = operands::OPERAND_BYTES;
+    let mut rest = tape;
+    while !rest.is_empty() {
+        match take_command(table, rest, &operand_bytes) {
+            Ok((instruction, size)) => {
+                text::write_accepted(lines, table, instruction)?;
+                rest = &rest[size..];
+            }
+            Err(refusal) => return text::write_refused(lines, refusal),
         }
-        n += read;
     }
-    Ok(n)
+    Ok(())
 }
 
 fn main(rt: HostRuntime) -> io::Result<()> {
-    let mut tape = [0u8; READ_BYTES];
-    let n = read_full(&mut rt.stdin(), &mut tape)?;
-    let mut lines = io::writer(&rt);
-    let mut out = [0u8; playing::OUT_BYTES];
-    if MAX_TAPE < n {
-        let end = text::write_refused(&mut out, 0, refusals::WRONG_SIZE);
-        return lines.write_all(&out[..end]);
+    let mut tape = Vec::new(rt.alloc());
+    rt.stdin().take(READ_BYTES).read_to_end(&mut tape)?;
+    let mut lines = BufWriter::new(rt.alloc(), io::writer(&rt))?;
+    if MAX_TAPE < tape.len() {
+        text::write_refused(&mut lines, refusals::WRONG_SIZE)?;
+    } else {
+        let mut table = [0u16; MAX_WORDS];
+        write_run(&mut lines, &mut table, &tape)?;
     }
-    let mut table = [0u16; MAX_WORDS];
-    write_run(&mut lines, &mut table, &tape[..n], &mut out)
+    lines.flush()
 }
