@@ -16,11 +16,13 @@ use Rattle.hypermap.proofs.Basics.Bools.{clash, and_left, and_right, and_true}
 use Rattle.table.specs.Refusals.{no_list, apart, same_tab, tie_twice, gap_twice, path_broken}
 use Rattle.table.specs.Refusals.{or_else, unless}
 use Rattle.table.specs.Layout.{Table, is_present, hypermap_of}
+use Rattle.table.specs.Inner.{WithinCapacity}
 use Rattle.table.specs.Commands.{presence_refusal}
 use Rattle.table.proofs.Holding.{mem_present}
 use Rattle.table.proofs.Stages.{passed, fitting, all_present, present_fits}
 use Rattle.table.specs.Limits.{max_ring}
 use Rattle.rings.specs.Rings.{links_of, is_list, pairs_together, path_closes, condition_refusal, ring_refusal}
+use Rattle.rings.specs.Inner.{Listed}
 use Rattle.rings.specs.Laws.{is_ring_of, ConditionsLaw}
 
 -- THE LIST
@@ -142,6 +144,10 @@ accepted_list w ws e =
         path = fitting (path_closes m ls) path_broken (omega arith) g.1;
       };
     }
+
+-- what a cut along it asks
+pub accepted_listed : (w : Table) (ws : List ℕ) → WithinCapacity w → ring_refusal w ws ≡ 0 → Listed w ws
+accepted_listed w ws p e = record { hypermap = p.hypermap; room = p.room; darts = (accepted_list w ws e).darts }
 
 acceptable : (w : Table) (ws : List ℕ) → Accepted w ws → ring_refusal w ws ≡ 0
 unfolding ring_refusal condition_refusal or_else unless

@@ -2,27 +2,23 @@
 // lies in the orbit of an earlier one. Each dart is marked at most once, so the cost is the table's and the list's.
 ghost use Rattle.std.specs.Prelude.{◌≡◌, true};
 ghost use Rattle.table.specs.Inner.{kind_of};
-ghost use Rattle.rings.specs.Rings.{links_of};
-ghost use Rattle.rings.specs.Inner.{ListedMarking, firsts_apart, FirstsMarked};
+ghost use Rattle.rings.specs.Inner.{links_in, LinksMarking, firsts_apart, FirstsMarked};
 
 use parts::marks;
 use table::Orbit;
 
-pub fn firsts_apart(table: &[u16], orbit: Orbit, ring: &[u16], marks: &mut [u16]) -> bool
-    requires { ListedMarking table.now ring.now marks.old }
-    ensures value { result ≡ firsts_apart table.now (kind_of orbit) (links_of ring.now) }
+pub fn firsts_apart(table: &[u16], orbit: Orbit, links: &[[u16; 2]], marks: &mut [u16]) -> bool
+    requires { LinksMarking table.now (links_in links.now) marks.old }
+    ensures value { result ≡ firsts_apart table.now (kind_of orbit) (links_in links.now) }
     ensures marks { result ≡ true →
-        FirstsMarked table.now (kind_of orbit) (links_of ring.now) marks.new }
+        FirstsMarked table.now (kind_of orbit) (links_in links.now) marks.new }
 {
-    marks::clear(marks);
-    let mut k = 0;
-    while k + 1 < ring.len() {
-        let x = ring[k];
-        if marks::mark_of(marks, x) != 0 {
+    marks.fill(0);
+    for &[first, _] in links {
+        if marks::mark_of(marks, first) != 0 {
             return false;
         }
-        marks::mark_orbit(table, orbit, x, x, marks);
-        k += 2;
+        marks::mark_orbit(table, orbit, first, first, marks);
     }
     true
 }

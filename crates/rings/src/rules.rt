@@ -2,48 +2,51 @@
 ghost use Rattle.std.specs.Prelude.{◌≡◌};
 ghost use Rattle.table.specs.Layout.{hypermap_of};
 ghost use Rattle.table.specs.Inner.{WithinCapacity};
-ghost use Rattle.rings.specs.Rings.{links_of, condition_refusal, ring_refusal};
-ghost use Rattle.rings.specs.Inner.{ListedMarking};
+ghost use Rattle.table.specs.Replies.{reply};
+ghost use Rattle.rings.specs.Rings.{condition_refusal, ring_refusal};
+ghost use Rattle.rings.specs.Inner.{links_in, LinksMarking};
 
 use crate::apart::firsts_apart;
 use crate::list;
 use crate::path::path_closes;
 use crate::together::pairs_together;
 use table::limits::MAX_CAPACITY;
-use table::{Orbit, refusals, words};
+use table::refusals::Refusal;
+use table::{Orbit, words};
 
 // The conditions on double-links of darts.
-fn condition_refusal(table: &[u16], ring: &[u16], marks: &mut [u16]) -> u8
-    requires { ListedMarking table.now ring.now marks.old }
-    ensures { result ≡ condition_refusal (hypermap_of table.now) (links_of ring.now) }
+fn judge_conditions(table: &[u16], links: &[[u16; 2]], marks: &mut [u16]) -> Result<(), Refusal>
+    requires { LinksMarking table.now (links_in links.now) marks.old }
+    ensures { reply result ≡ condition_refusal (hypermap_of table.now) (links_in links.now) }
 {
-    if !pairs_together(table, ring, marks) {
-        return refusals::APART;
+    if !pairs_together(table, links, marks) {
+        return Err(Refusal::Apart);
     }
-    if !list::pairs_differ(ring) {
-        return refusals::SAME_TAB;
+    if !list::pairs_differ(links) {
+        return Err(Refusal::SameTab);
     }
-    if !firsts_apart(table, Orbit::Edge, ring, marks) {
-        return refusals::TIE_TWICE;
+    if !firsts_apart(table, Orbit::Edge, links, marks) {
+        return Err(Refusal::TieTwice);
     }
-    if !firsts_apart(table, Orbit::Face, ring, marks) {
-        return refusals::GAP_TWICE;
+    if !firsts_apart(table, Orbit::Face, links, marks) {
+        return Err(Refusal::GapTwice);
     }
-    refusals::unless_so(path_closes(table, ring, marks), refusals::PATH_BROKEN)
+    if !path_closes(table, links, marks) {
+        return Err(Refusal::PathBroken);
+    }
+    Ok(())
 }
 
-pub fn ring_refusal(table: &[u16], ring: &[u16]) -> u8
+pub fn judge_ring(table: &[u16], ring: &[u16]) -> Result<(), Refusal>
     requires { WithinCapacity table.now }
-    ensures { result ≡ ring_refusal table.now ring.now }
+    ensures { reply result ≡ ring_refusal table.now ring.now }
 {
     if !list::is_list(ring) {
-        return refusals::NO_LIST;
+        return Err(Refusal::NoList);
     }
-    let refusal = list::words_refusal(table, ring);
-    if refusal != 0 {
-        return refusal;
-    }
+    list::judge_words(table, ring)?;
+    let (links, _) = ring.as_chunks::<2>();
     let n = words::capacity_of(table);
     let mut marks = [0u16; MAX_CAPACITY];
-    condition_refusal(table, ring, &mut marks[..n])
+    judge_conditions(table, links, &mut marks[..n])
 }

@@ -2,39 +2,30 @@
 // dart in it, so the cost is theirs and the list's, also where many double-links lie in one edge.
 ghost use Rattle.std.specs.Prelude.{◌≡◌};
 ghost use Rattle.table.specs.Layout.{hypermap_of};
-ghost use Rattle.rings.specs.Rings.{links_of, pairs_together};
-ghost use Rattle.rings.specs.Inner.{ListedMarking, FirstsTell};
+ghost use Rattle.rings.specs.Rings.{pairs_together};
+ghost use Rattle.rings.specs.Inner.{links_in, LinksMarking, FirstsTell};
 
 use parts::marks;
 use table::Orbit;
 
 // Marks the edges of the first darts.
-fn mark_firsts(table: &[u16], ring: &[u16], marks: &mut [u16])
-    requires { ListedMarking table.now ring.now marks.old }
-    ensures { FirstsTell table.now (links_of ring.now) marks.new }
+fn mark_firsts(table: &[u16], links: &[[u16; 2]], marks: &mut [u16])
+    requires { LinksMarking table.now (links_in links.now) marks.old }
+    ensures { FirstsTell table.now (links_in links.now) marks.new }
 {
-    marks::clear(marks);
-    let mut k = 0;
-    while k + 1 < ring.len() {
-        let x = ring[k];
-        if marks::mark_of(marks, x) == 0 {
-            marks::mark_orbit(table, Orbit::Edge, x, x, marks);
+    marks.fill(0);
+    for &[first, _] in links {
+        if marks::mark_of(marks, first) == 0 {
+            marks::mark_orbit(table, Orbit::Edge, first, first, marks);
         }
-        k += 2;
     }
 }
 
-pub fn pairs_together(table: &[u16], ring: &[u16], marks: &mut [u16]) -> bool
-    requires { ListedMarking table.now ring.now marks.old }
-    ensures { result ≡ pairs_together (hypermap_of table.now) (links_of ring.now) }
+pub fn pairs_together(table: &[u16], links: &[[u16; 2]], marks: &mut [u16]) -> bool
+    requires { LinksMarking table.now (links_in links.now) marks.old }
+    ensures { result ≡ pairs_together (hypermap_of table.now) (links_in links.now) }
 {
-    mark_firsts(table, ring, marks);
-    let mut k = 0;
-    while k + 1 < ring.len() {
-        if marks::mark_of(marks, ring[k]) != marks::mark_of(marks, ring[k + 1]) {
-            return false;
-        }
-        k += 2;
-    }
-    true
+    mark_firsts(table, links, marks);
+    links.iter().all(|&[first, second]| marks::mark_of(marks, first)
+        == marks::mark_of(marks, second))
 }

@@ -4,11 +4,12 @@
 #![tactic(auto)]
 
 ghost use Rattle.std.specs.Prelude.{◌≡◌, true};
+ghost use Rattle.table.specs.Replies.{reply};
 ghost use Rattle.soundness.specs.Soundness.{size_fits, is_sound, table_refusal};
 
 use table::hypermap_test::holds_hypermap;
 use table::limits::{MAX_WORDS, WORDS_PER_DART};
-use table::refusals;
+use table::refusals::Refusal;
 
 fn size_fits(table: &[u16]) -> bool
     ensures { result ≡ size_fits table.now }
@@ -23,12 +24,15 @@ fn is_sound(table: &[u16]) -> bool
     holds_hypermap(table)
 }
 
-// 1 for a wrong size, 2 for a table that is not sound, else 0.
-pub fn table_refusal(table: &[u16]) -> u8
-    ensures { result ≡ table_refusal table.now }
+// 1 for a wrong size, 2 for a table that is not sound.
+pub fn judge_table(table: &[u16]) -> Result<(), Refusal>
+    ensures { reply result ≡ table_refusal table.now }
 {
     if !size_fits(table) {
-        return refusals::WRONG_SIZE;
+        return Err(Refusal::WrongSize);
     }
-    refusals::unless_so(is_sound(table), refusals::BENT_TABLE)
+    if !is_sound(table) {
+        return Err(Refusal::BentTable);
+    }
+    Ok(())
 }

@@ -8,6 +8,7 @@ pub mod Walking
 pub mod Meeting
 pub mod Writing
 pub mod Stages
+pub mod Replying
 pub mod Filling
 pub mod Swaps
 pub mod Accepting

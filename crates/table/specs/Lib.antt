@@ -5,3 +5,4 @@ pub mod Commands
 pub mod Runs
 pub mod Laws
 pub mod Inner
+pub mod Replies

@@ -1,39 +1,44 @@
-// A change of a table: its refusal, the words that it writes, and both in turn. Document 01's refusals 1 and 2 are the
-// caller's.
+// A change of a table: whether it is refused, the words that it writes, and both in turn. Document 01's refusals 1 and 2
+// are the caller's.
 ghost use Rattle.std.specs.Prelude.{◌≡◌, [], ◌∷◌};
 ghost use Rattle.table.specs.Limits.{edge_next};
 ghost use Rattle.table.specs.Commands.{is_alone, is_together, presence_refusal, command_refusal, command_on};
-ghost use Rattle.table.specs.Commands.{puts, takes_out, joins, cuts, with_all, swapped, leaves, command_leaves};
+ghost use Rattle.table.specs.Commands.{puts, takes_out, joins, cuts, with_all, swapped, command_leaves};
 ghost use Rattle.table.specs.Inner.{InTable, WithinCapacity, WithinCapacityAtBoth, Accepts, Storable};
 ghost use Rattle.table.specs.Inner.{dimension_of, command_for};
+ghost use Rattle.table.specs.Replies.{reply};
 
 use crate::limits::{EDGE_NEXT, VERTEX_NEXT};
+use crate::refusals::Refusal;
 use crate::words::to_word;
-use crate::{Change, Dimension, refusals, store, walk, words};
+use crate::{Change, Dimension, store, walk, words};
 
 // WHAT IS JUDGED
 
 // 3, then 4, of one dart.
-pub fn dart_refusal(table: &[u16], x: u32) -> u8
-    ensures { result ≡ presence_refusal table.now (x ∷ []) }
+pub fn judge_dart(table: &[u16], x: u32) -> Result<(), Refusal>
+    ensures { reply result ≡ presence_refusal table.now (x ∷ []) }
 {
-    refusals::or_else(
-        refusals::unless_so(words::is_number(table, x), refusals::OFF_THE_TABLE),
-        refusals::unless_so(words::is_present(table, x), refusals::NO_TAB),
-    )
+    if !words::is_number(table, x) {
+        return Err(Refusal::OffTheTable);
+    }
+    if !words::is_present(table, x) {
+        return Err(Refusal::NoTab);
+    }
+    Ok(())
 }
 
 // 3 of both darts, then 4 of both.
-pub fn darts_refusal(table: &[u16], a: u32, b: u32) -> u8
-    ensures { result ≡ presence_refusal table.now (a ∷ b ∷ []) }
+pub fn judge_darts(table: &[u16], a: u32, b: u32) -> Result<(), Refusal>
+    ensures { reply result ≡ presence_refusal table.now (a ∷ b ∷ []) }
 {
     if !(words::is_number(table, a) & words::is_number(table, b)) {
-        return refusals::OFF_THE_TABLE;
+        return Err(Refusal::OffTheTable);
     }
-    refusals::unless_so(
-        words::is_dart(table, a) & words::is_dart(table, b),
-        refusals::NO_TAB,
-    )
+    if !(words::is_dart(table, a) & words::is_dart(table, b)) {
+        return Err(Refusal::NoTab);
+    }
+    Ok(())
 }
 
 // Whether dart x is an edge and a vertex by itself.
@@ -52,64 +57,67 @@ fn are_together(table: &[u16], d: Dimension, a: u32, b: u32) -> bool
     walk::distance(table, walk::orbit_of(d), to_word(a), to_word(b)).reached
 }
 
-// THE REFUSAL of a change
+// WHETHER A CHANGE IS REFUSED
 
-pub fn put_refusal(table: &[u16], x: u32) -> u8
-    ensures { result ≡ command_refusal table.now (puts x) }
+pub fn judge_put(table: &[u16], x: u32) -> Result<(), Refusal>
+    ensures { reply result ≡ command_refusal table.now (puts x) }
 {
-    refusals::or_else(
-        refusals::unless_so(words::is_number(table, x), refusals::OFF_THE_TABLE),
-        refusals::unless_so(!words::is_present(table, x), refusals::TAB_TAKEN),
-    )
-}
-
-pub fn take_out_refusal(table: &[u16], x: u32) -> u8
-    requires { WithinCapacity table.now }
-    ensures { result ≡ command_refusal table.now (takes_out x) }
-{
-    let refusal = dart_refusal(table, x);
-    if refusal != 0 {
-        return refusal;
+    if !words::is_number(table, x) {
+        return Err(Refusal::OffTheTable);
     }
-    refusals::unless_so(is_alone(table, to_word(x)), refusals::TAB_HELD)
-}
-
-pub fn join_refusal(table: &[u16], d: Dimension, a: u32, b: u32) -> u8
-    requires { WithinCapacity table.now }
-    ensures { result ≡ command_refusal table.now (joins (dimension_of d) a b) }
-{
-    let refusal = darts_refusal(table, a, b);
-    if refusal != 0 {
-        return refusal;
+    if words::is_present(table, x) {
+        return Err(Refusal::TabTaken);
     }
-    refusals::unless_so(!are_together(table, d, a, b), refusals::TOGETHER)
+    Ok(())
 }
 
-pub fn cut_refusal(table: &[u16], d: Dimension, a: u32, b: u32) -> u8
+pub fn judge_take_out(table: &[u16], x: u32) -> Result<(), Refusal>
     requires { WithinCapacity table.now }
-    ensures { result ≡ command_refusal table.now (cuts (dimension_of d) a b) }
+    ensures { reply result ≡ command_refusal table.now (takes_out x) }
 {
-    let refusal = darts_refusal(table, a, b);
-    if refusal != 0 {
-        return refusal;
+    judge_dart(table, x)?;
+    if !is_alone(table, to_word(x)) {
+        return Err(Refusal::TabHeld);
     }
-    refusals::or_else(
-        refusals::unless_so(are_together(table, d, a, b), refusals::APART),
-        refusals::unless_so(!(a == b), refusals::SAME_TAB),
-    )
+    Ok(())
 }
 
-pub fn refusal_of(table: &[u16], change: Change) -> u8
+pub fn judge_join(table: &[u16], d: Dimension, a: u32, b: u32) -> Result<(), Refusal>
     requires { WithinCapacity table.now }
-    ensures { result ≡ command_refusal table.now (command_for change) }
+    ensures { reply result ≡ command_refusal table.now (joins (dimension_of d) a b) }
+{
+    judge_darts(table, a, b)?;
+    if are_together(table, d, a, b) {
+        return Err(Refusal::Together);
+    }
+    Ok(())
+}
+
+pub fn judge_cut(table: &[u16], d: Dimension, a: u32, b: u32) -> Result<(), Refusal>
+    requires { WithinCapacity table.now }
+    ensures { reply result ≡ command_refusal table.now (cuts (dimension_of d) a b) }
+{
+    judge_darts(table, a, b)?;
+    if !are_together(table, d, a, b) {
+        return Err(Refusal::Apart);
+    }
+    if a == b {
+        return Err(Refusal::SameTab);
+    }
+    Ok(())
+}
+
+pub fn judge(table: &[u16], change: Change) -> Result<(), Refusal>
+    requires { WithinCapacity table.now }
+    ensures { reply result ≡ command_refusal table.now (command_for change) }
 {
     match change {
-        Change::Put(x) => put_refusal(table, x),
-        Change::TakeOut(x) => take_out_refusal(table, x),
-        Change::EdgeJoin(a, b) => join_refusal(table, Dimension::Edge, a, b),
-        Change::EdgeCut(a, b) => cut_refusal(table, Dimension::Edge, a, b),
-        Change::VertexJoin(a, b) => join_refusal(table, Dimension::Vertex, a, b),
-        Change::VertexCut(a, b) => cut_refusal(table, Dimension::Vertex, a, b),
+        Change::Put(x) => judge_put(table, x),
+        Change::TakeOut(x) => judge_take_out(table, x),
+        Change::EdgeJoin(a, b) => judge_join(table, Dimension::Edge, a, b),
+        Change::EdgeCut(a, b) => judge_cut(table, Dimension::Edge, a, b),
+        Change::VertexJoin(a, b) => judge_join(table, Dimension::Vertex, a, b),
+        Change::VertexCut(a, b) => judge_cut(table, Dimension::Vertex, a, b),
     }
 }
 
@@ -143,62 +151,14 @@ pub fn write(table: &mut [u16], change: Change)
     }
 }
 
-// BOTH AT ONCE, for a run of many changes. It goes by arms, in which the dimension is known; a caller has it compiled
-// into its loop as long as it is the only one. A call for a single change asks `refusal_of`, and then `write`.
+// BOTH IN TURN
 
-pub fn write_all_unless(table: &mut [u16], refusal: u8, x: u32, value: u32) -> u8
-    requires { refusal ≡ 0 → Storable table.old x value }
-    ensures value { result ≡ refusal }
-    ensures table { table.new ≡
-        leaves refusal (with_all x value table.old) table.old }
-{
-    if refusal == 0 {
-        write_all(table, x, value);
-    }
-    refusal
-}
-
-pub fn write_swap_unless(table: &mut [u16], refusal: u8, d: Dimension, a: u32, b: u32) -> u8
-    requires { refusal ≡ 0 → WithinCapacityAtBoth table.old a b }
-    ensures value { result ≡ refusal }
-    ensures table { table.new ≡
-        leaves refusal (swapped (dimension_of d) a b table.old) table.old }
-{
-    if refusal == 0 {
-        write_swap(table, d, a, b);
-    }
-    refusal
-}
-
-pub fn perform(table: &mut [u16], change: Change) -> u8
+pub fn perform(table: &mut [u16], change: Change) -> Result<(), Refusal>
     requires { WithinCapacity table.old }
-    ensures value { result ≡ command_refusal table.old (command_for change) }
+    ensures value { reply result ≡ command_refusal table.old (command_for change) }
     ensures table { table.new ≡ command_leaves table.old (command_for change) }
 {
-    match change {
-        Change::Put(x) => {
-            let refusal = put_refusal(table, x);
-            write_all_unless(table, refusal, x, x)
-        }
-        Change::TakeOut(x) => {
-            let refusal = take_out_refusal(table, x);
-            write_all_unless(table, refusal, x, 0)
-        }
-        Change::EdgeJoin(a, b) => {
-            let refusal = join_refusal(table, Dimension::Edge, a, b);
-            write_swap_unless(table, refusal, Dimension::Edge, a, b)
-        }
-        Change::EdgeCut(a, b) => {
-            let refusal = cut_refusal(table, Dimension::Edge, a, b);
-            write_swap_unless(table, refusal, Dimension::Edge, a, b)
-        }
-        Change::VertexJoin(a, b) => {
-            let refusal = join_refusal(table, Dimension::Vertex, a, b);
-            write_swap_unless(table, refusal, Dimension::Vertex, a, b)
-        }
-        Change::VertexCut(a, b) => {
-            let refusal = cut_refusal(table, Dimension::Vertex, a, b);
-            write_swap_unless(table, refusal, Dimension::Vertex, a, b)
-        }
-    }
+    judge(table, change)?;
+    write(table, change);
+    Ok(())
 }

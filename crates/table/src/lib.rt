@@ -3,6 +3,10 @@
 
 #![tactic(auto)]
 
+ghost use Rattle.std.specs.Prelude.{◌≡◌};
+ghost use Rattle.table.specs.Commands.{opposite};
+ghost use Rattle.table.specs.Inner.{command_for};
+
 pub mod changes;
 pub mod hypermap_test;
 pub mod limits;
@@ -44,4 +48,20 @@ pub enum Change {
     EdgeCut(u32, u32),
     VertexJoin(u32, u32),
     VertexCut(u32, u32),
+}
+
+impl Change {
+    // The change that undoes it.
+    pub fn opposite(self) -> Change
+        ensures { command_for result ≡ opposite (command_for self) }
+    {
+        match self {
+            Change::Put(x) => Change::TakeOut(x),
+            Change::TakeOut(x) => Change::Put(x),
+            Change::EdgeJoin(a, b) => Change::EdgeCut(a, b),
+            Change::EdgeCut(a, b) => Change::EdgeJoin(a, b),
+            Change::VertexJoin(a, b) => Change::VertexCut(a, b),
+            Change::VertexCut(a, b) => Change::VertexJoin(a, b),
+        }
+    }
 }

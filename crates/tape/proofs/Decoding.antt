@@ -10,13 +10,24 @@ use lib.Dec.{leb}
 use lib.ListN.{length, get_or, take, drop, set, length-set}
 use lib.Seq.{take_all, take_at, drop-length, paste-suc}
 use borrow.Author.Tests.{leb-true, ltb-true, lt-ltb, le-leb, lt-leb, ne_eqb}
+use Rattle.std.proofs.Common.{Result, Ok}
+use Rattle.std.specs.Result.{IsErrAnd}
+use Rattle.std.proofs.lemmas.Result.{err_from_is_err_and}
 use Rattle.hypermap.specs.Lists.{all}
 use Rattle.hypermap.proofs.Basics.Bools.{by_cases, and_left, and_right}
 use Rattle.table.specs.Refusals.{or_else, unless}
 use Rattle.tape.specs.Tapes.{operand_sizes, is_command, command_size, byte_of, size_of, read_refusal}
-use Rattle.tape.specs.Tapes.{number_at, numbers_from}
-use Rattle.tape.specs.Inner.{Reads}
-use Rattle.tape.specs.declared.Reading.TheVariants.{Refused}
+use Rattle.table.specs.declared.refusals.Refusal.{Refusal}
+use Rattle.table.specs.declared.refusals.Refusal.TheVariants.{TornCommand, UnknownCommand}
+use Rattle.tape.specs.Tapes.{command_of, number_at, numbers_from}
+use Rattle.tape.specs.Opcodes.{byte_for}
+use Rattle.tape.specs.Inner.{meaning, Reads}
+use Rattle.tape.specs.declared.Instruction.{Instruction}
+use Rattle.tape.specs.declared.opcode.Opcode.{Opcode}
+use Rattle.tape.specs.declared.opcode.Opcode.TheVariants as opcode
+use Rattle.hypermap.specs.Hypermap.{edge, vertex}
+use Rattle.table.specs.Commands.{puts, takes_out, joins, cuts}
+use Rattle.tape.specs.Steps.{TapeCommand, changes, reports, cuts_ring}
 
 -- COMMAND BYTES are indices of the operand table, and its entries are small
 pub command_below : (b : ℕ) → is_command b ≡ true → b < 9
@@ -37,25 +48,6 @@ pub command_small : (b : ℕ) → command_size b ≤ 5
 unfolding command_size
 command_small b = let h = entry_small refl b in omega arith
 
--- commands of one dart, and of two
-pub one_dart : (b : ℕ) → 1 ≤ b → b ≤ 2 → command_size b ≡ 3
-unfolding command_size operand_sizes
-one_dart zero p q = absurd (omega arith)
-one_dart (suc zero) p q = refl
-one_dart (suc (suc zero)) p q = refl
-one_dart (suc (suc (suc b))) p q = absurd (omega arith)
-
-pub two_darts : (b : ℕ) → 3 ≤ b → b ≤ 6 → command_size b ≡ 5
-unfolding command_size operand_sizes
-two_darts zero p q = absurd (omega arith)
-two_darts (suc zero) p q = absurd (omega arith)
-two_darts (suc (suc zero)) p q = absurd (omega arith)
-two_darts (suc (suc (suc zero))) p q = refl
-two_darts (suc (suc (suc (suc zero)))) p q = refl
-two_darts (suc (suc (suc (suc (suc zero))))) p q = refl
-two_darts (suc (suc (suc (suc (suc (suc zero)))))) p q = refl
-two_darts (suc (suc (suc (suc (suc (suc (suc b))))))) p q = absurd (omega arith)
-
 pub is_known : (b : ℕ) → 1 ≤ b → b ≤ 8 → is_command b ≡ true
 unfolding is_command operand_sizes
 is_known b p q = rw (le-leb 1 b p, lt-ltb b 9 (omega arith))
@@ -66,9 +58,9 @@ pub record Sized (bs : List ℕ) (n : ℕ) : Type 0 where
   pub size : n ≡ size_of bs
 
 module _ {bs : List ℕ} {n : ℕ} (s : Sized bs n) where
-  pub torn_reads : length bs < n → Reads bs (Refused 16)
+  pub torn_refusal : length bs < n → 16 ≡ read_refusal bs
   unfolding read_refusal or_else unless
-  torn_reads l = (rw (s.known, ← s.size, lt-leb _ _ l), λ z. omega arith)
+  torn_refusal l = rw (s.known, ← s.size, lt-leb _ _ l)
 
   pub whole_refusal : n ≤ length bs → read_refusal bs ≡ 0
   unfolding read_refusal or_else unless
@@ -88,21 +80,80 @@ unfolding size_of
 ring_sized e q = record { known = rw e (is_known 8 (omega arith) (omega arith)); size = rw e q }
 
 -- a byte below or above those of the commands is none
-pub unknown_reads : (bs : List ℕ) (b : ℕ) → b ≡ byte_of bs → (1 ≤ b → 9 ≤ b) → Reads bs (Refused 15)
-unfolding read_refusal or_else unless is_command
-unknown_reads bs b e l =
-    let none : is_command b ≡ false =
+pub is_unknown : (b : ℕ) → (1 ≤ b → 9 ≤ b) → is_command b ≡ false
+unfolding is_command
+is_unknown b l =
     by_cases (is_command b)
     (λ h.
     let some = leb-true 1 b (and_left (leb 1 b) _ h) in
     let u = command_below b h in
-    absurd (omega (arith, l some))) (λ h. h) in
-    (rw (← e, none), λ z. omega arith)
+    absurd (omega (arith, l some))) (λ h. h)
+
+pub unknown_refusal : (bs : List ℕ) → is_command (byte_of bs) ≡ false → 15 ≡ read_refusal bs
+unfolding read_refusal or_else unless
+unknown_refusal bs e = rw e
 
 -- a byte that is not 0 stands on the tape
 pub some_byte : (bs : List ℕ) (b : ℕ) → b ≡ byte_of bs → 0 < b → 0 < length bs
 some_byte [] b e p = absurd (omega arith)
 some_byte (x ∷ bs) b e p = omega arith
+
+byte_positive : (o : Opcode) → 1 ≤ byte_for o
+byte_positive o = grind arith
+
+-- ANSWERS of the decoder, by the opcode o of the first byte: a change whose operands are on the tape or not
+module _ (bs : List ℕ) (o : Opcode) (e : byte_of bs ≡ byte_for o) (p : byte_for o ≤ 7) where
+  opcode_sized : {n : ℕ} → n ≡ command_size (byte_for o) → Sized bs n
+  opcode_sized {n} z = plain_sized bs (byte_for o) n (sym e) (byte_positive o) p z
+
+  pub torn_reads :
+      (r : Result (Instruction × ℕ) Refusal) (d : Refusal) (n : ℕ) → n ≡ command_size (byte_for o) →
+      IsErrAnd r (λ y. y ≡ d) → (d ≡ TornCommand) × (length bs < n) → Reads bs r
+  torn_reads r d n z q t =
+      let u = err_from_is_err_and r q in rw (u.1, u.2, t.0) (torn_refusal (opcode_sized z) t.1)
+
+  pub whole_reads :
+      (i : Instruction) (n : ℕ) → n ≡ command_size (byte_for o) → n ≤ length bs → meaning bs i ≡ command_of bs →
+      Reads bs (Ok (i, n))
+  whole_reads i n z l m = let s = opcode_sized z in (whole_refusal s l, m, s.size)
+
+-- the command by its opcode, and its operands among the numbers that were read
+abbrev pub command_at : (bs : List ℕ) → Opcode → TapeCommand
+command_at bs opcode.Put = changes (puts (number_at bs 1))
+command_at bs opcode.TakeOut = changes (takes_out (number_at bs 1))
+command_at bs opcode.EdgeJoin = changes (joins edge (number_at bs 1) (number_at bs 3))
+command_at bs opcode.EdgeCut = changes (cuts edge (number_at bs 1) (number_at bs 3))
+command_at bs opcode.VertexJoin = changes (joins vertex (number_at bs 1) (number_at bs 3))
+command_at bs opcode.VertexCut = changes (cuts vertex (number_at bs 1) (number_at bs 3))
+command_at bs opcode.Report = reports
+command_at bs opcode.RingCut = cuts_ring (numbers_from (2 * get_or bs 1 0) 2 bs)
+
+pub command_by : (bs : List ℕ) (o : Opcode) → byte_of bs ≡ byte_for o → command_at bs o ≡ command_of bs
+unfolding command_of
+command_by bs opcode.Put e = rw e
+command_by bs opcode.TakeOut e = rw e
+command_by bs opcode.EdgeJoin e = rw e
+command_by bs opcode.EdgeCut e = rw e
+command_by bs opcode.VertexJoin e = rw e
+command_by bs opcode.VertexCut e = rw e
+command_by bs opcode.Report e = rw e
+command_by bs opcode.RingCut e = rw e
+
+pub first_operand :
+    (bs : List ℕ) (n : ℕ) (xs : List ℕ) (x : ℕ) → xs ≡ numbers_from (suc n) 1 bs → x ≡ get_or xs 0 0 → x ≡ number_at bs 1
+unfolding numbers_from
+first_operand bs n xs x e q = rw (q, e)
+
+pub second_operand :
+    (bs : List ℕ) (n : ℕ) (xs : List ℕ) (x : ℕ) → xs ≡ numbers_from (suc (suc n)) 1 bs → x ≡ get_or xs 1 0 →
+    x ≡ number_at bs 3
+unfolding numbers_from
+second_operand bs n xs x e q = rw (q, e)
+
+pub unknown_reads :
+    (bs : List ℕ) (r : Result (Instruction × ℕ) Refusal) (d : Refusal) → IsErrAnd r (λ y. y ≡ d) →
+    (d ≡ UnknownCommand) × (is_command (byte_of bs) ≡ false) → Reads bs r
+unknown_reads bs r d q t = let u = err_from_is_err_and r q in rw (u.1, u.2, t.0) (unknown_refusal bs t.1)
 
 -- NUMBERS one after the other
 pub numbers_length : (n i : ℕ) (bs : List ℕ) → length (numbers_from n i bs) ≡ n
@@ -116,28 +167,28 @@ numbers_at zero i bs k h = absurd (omega arith)
 numbers_at (suc n) i bs zero h = ap (number_at bs) (omega arith)
 numbers_at (suc n) i bs (suc k) h = numbers_at n (i + 2) bs k (omega arith) ∙ ap (number_at bs) (omega arith)
 
--- the first k words hold the numbers of a tape from its third byte on, and the others what they held
-pub record Fills (tape old words : List ℕ) (k : ℕ) : Type 0 where
+-- the first k words hold the numbers of a tape from i on, and the others what they held
+pub record Fills (tape : List ℕ) (i : ℕ) (old words : List ℕ) (k : ℕ) : Type 0 where
   pub inside : k ≤ length old
-  pub filled : words ≡ take k (numbers_from (length old) 2 tape) ++ drop k old
+  pub filled : words ≡ take k (numbers_from (length old) i tape) ++ drop k old
   pub size : length words ≡ length old
 
-module _ {tape old words : List ℕ} {k : ℕ} (g : Fills tape old words k) where
-  pub fills_on : {x : ℕ} → k < length words → x ≡ number_at tape (2 + 2 * k) → Fills tape old (set words k x) (k + 1)
+module _ {tape : List ℕ} {i : ℕ} {old words : List ℕ} {k : ℕ} (g : Fills tape i old words k) where
+  pub fills_on : {x : ℕ} → k < length words → x ≡ number_at tape (i + 2 * k) → Fills tape i old (set words k x) (k + 1)
   fills_on {x} h e =
-      let l = numbers_from (length old) 2 tape in
-      let n = numbers_length (length old) 2 tape in
-      let v : x ≡ get_or l k 0 = e ∙ sym (numbers_at (length old) 2 tape k (omega arith)) in
+      let l = numbers_from (length old) i tape in
+      let n = numbers_length (length old) i tape in
+      let v : x ≡ get_or l k 0 = e ∙ sym (numbers_at (length old) i tape k (omega arith)) in
       record {
         inside = omega arith;
         filled = rw (g.filled, v, add-one) (simp zero-add at (paste-suc old 0 l k 0 (omega arith) (omega arith)));
         size = length-set words k x ∙ g.size;
       }
 
-  pub fills_all : length words ≤ k → words ≡ numbers_from (length old) 2 tape
+  pub fills_all : length words ≤ k → words ≡ numbers_from (length old) i tape
   fills_all h =
-      let l = numbers_from (length old) 2 tape in
-      let n = numbers_length (length old) 2 tape in
+      let l = numbers_from (length old) i tape in
+      let n = numbers_length (length old) i tape in
       let e : k ≡ length old = omega arith in
       g.filled ∙ rw (e, drop-length old, append-nil) (take_all (length old) l (omega arith))
 

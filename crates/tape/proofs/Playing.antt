@@ -5,19 +5,29 @@ use mathlib.Core.List.{List}
 use Prim.Native.Nat.{ℕ, ◌+◌, ◌-◌, ◌≤◌, ◌<◌}
 use native.Mathlib.Omega.{arith}
 use lib.ListN.{length, take, drop}
-use borrow.Author.Tests.{eq-eqb, ne_eqb}
+use mathlib.Core.Bool.{Bool, true, false}
+use borrow.Author.Tests.{eq-eqb, ne_eqb, eqb-true, eqb-false}
+use lib.Dec.{eqb}
 use borrow.Author.Rules.{part_to_end}
+use Rattle.hypermap.proofs.Basics.Bools.{by_cases}
+use Rattle.table.specs.Refusals.{or_else}
 use Rattle.table.specs.Commands.{leaves}
+use Rattle.table.proofs.Stages.{passed, refused_first, refused}
 use Rattle.table.specs.Runs.{Rule, rule_leaves, Outcome, stopped, one_more, run_by}
 use Rattle.table.proofs.Runs.{run_stops, run_goes_on, later, later_one, later_stopped}
 use Rattle.tape.specs.Steps.{TapeCommand}
-use Rattle.tape.specs.Tapes.{Contents, command_of, read_refusal, rest_of}
-use Rattle.tape.specs.Runs.{tape_run}
-use Rattle.tape.specs.Inner.{meaning, refusal_in, Reads}
+use Rattle.tape.specs.Tapes.{Contents, command_of, read_refusal, rest_of, size_of}
+use Rattle.tape.specs.Inner.{meaning}
 use Rattle.tape.specs.declared.Instruction.{Instruction}
-use Rattle.tape.specs.declared.Reading.{Reading}
-use Rattle.tape.specs.declared.Reading.TheVariants.{Whole, Refused}
+use Rattle.tape.specs.Runs.{tape_run, first_refusal, first_leaves}
 use Rattle.tape.proofs.Contents.{size_fits, rest_shorter, reading_law}
+
+-- whether something is left of a tape, as code asks
+pub nothing_left : (bs : List ℕ) (t : Bool) → t ≡ eqb (length bs) 0 → t ≡ true → length bs ≡ 0
+nothing_left bs t e f = eqb-true (length bs) 0 (sym e ∙ f)
+
+pub something_left : (bs : List ℕ) (t : Bool) → t ≡ eqb (length bs) 0 → t ≡ false → 0 < length bs
+something_left bs t e f = let d = eqb-false (length bs) 0 (sym e ∙ f) in omega arith
 
 -- A RUN by its first command
 module _ {S : Type 0} (r : Rule S TapeCommand) (s : S) (bs : List ℕ) where
@@ -43,16 +53,43 @@ module _ {S : Type 0} (r : Rule S TapeCommand) (s : S) (bs : List ℕ) where
           tape_run r s bs ≡ one_more (tape_run r (r.on s (command_of bs)) (rest_of bs))
       run_on z = ap run_through ((reading_law bs).read some e) ∙ run_goes_on r _ _ s _ z
 
--- A COMMAND READ WHOLE lies on the tape, and has a byte
-module _ (bs : List ℕ) (r : Reading) (a : Reads bs r) (i : Instruction) (n : ℕ) (b : r ≡ Whole i n) where
-  pub whole_read : Reads bs (Whole i n)
-  whole_read = rw b at a
+-- A FIRST COMMAND that is accepted lies on the tape, and has a byte
+module _ {S : Type 0} (r : Rule S TapeCommand) (s : S) (bs : List ℕ) (e : first_refusal r s bs ≡ 0) where
+  pub first_read : read_refusal bs ≡ 0
+  unfolding first_refusal
+  first_read = (passed (read_refusal bs) (r.refusal s (command_of bs)) e).0
 
-  pub whole_fits : n ≤ length bs
-  whole_fits = rw whole_read.2 (size_fits bs whole_read.0)
+  pub first_accepted : r.refusal s (command_of bs) ≡ 0
+  unfolding first_refusal
+  first_accepted = (passed (read_refusal bs) (r.refusal s (command_of bs)) e).1
 
-  pub rest_less : 0 < length bs → length (take (length bs - n) (drop n bs)) < length bs
-  rest_less some = rw (part_to_end, whole_read.2) (rest_shorter bs some)
+  module _ (n : ℕ) (z : n ≡ size_of bs) where
+    pub first_fits : n ≤ length bs
+    first_fits = rw z (size_fits bs first_read)
+
+    pub first_rest : 0 < length bs → length (take (length bs - n) (drop n bs)) < length bs
+    first_rest some = rw (part_to_end, z) (rest_shorter bs some)
+
+-- IN CODE: the decoder reads the instruction i, and then the command is carried out
+pub unread_number : {S : Type 0} (r : Rule S TapeCommand) (s : S) (bs : List ℕ) (k : ℕ) → k ≡ read_refusal bs → (k ≡ 0 → ⊥) → k ≡ first_refusal r s bs
+unfolding first_refusal
+unread_number r s bs k e d = refused_first (read_refusal bs) (r.refusal s (command_of bs)) k e d
+
+pub unread_state :
+    {S : Type 0} (r : Rule S TapeCommand) (s : S) (bs : List ℕ) (k : ℕ) → k ≡ read_refusal bs → (k ≡ 0 → ⊥) → s ≡ first_leaves r s bs
+unfolding first_leaves
+unread_state r s bs k e d = refused _ k _ _ (unread_number r s bs k e d) d
+
+module _
+    {S : Type 0} (r : Rule S TapeCommand) (s : S) (bs : List ℕ) (i : Instruction) (n : ℕ)
+    (a : (read_refusal bs ≡ 0) × (meaning bs i ≡ command_of bs) × (n ≡ size_of bs)) where
+  pub read_number : (k : ℕ) → k ≡ r.refusal s (meaning bs i) → k ≡ first_refusal r s bs
+  unfolding first_refusal or_else
+  read_number k e = rw (a.0, ← a.1) e
+
+  pub read_state : (t : S) → t ≡ rule_leaves r s (meaning bs i) → t ≡ first_leaves r s bs
+  unfolding first_leaves first_refusal or_else
+  read_state t e = rw (a.0, ← a.1) e
 
 -- THE STATE of a run: from s₀ and the whole tape, k commands on, each of which keeps P
 pub record Playing {S : Type 0} (r : Rule S TapeCommand) (P : S → Type 0) (s₀ : S) (tape : List ℕ) (s : S)
@@ -74,40 +111,33 @@ module _
   pub playing_end : length rest ≡ 0 → Ends (tape_run r s₀ tape) 0 k s
   playing_end e = ends 0 (run_none r s rest e)
 
-  -- the decoder reads d
-  module _ (some : 0 < length rest) (d : Reading) (a : Reads rest d) where
-    pub playing_refused : (n m : ℕ) → d ≡ Refused n → m ≡ refusal_in d → Ends (tape_run r s₀ tape) m k s
-    playing_refused n m b e =
-        let q : Reads rest (Refused n) = rw b at a in
-        let g : m ≡ read_refusal rest = rw (b, q.0) at e in
-        rw g (ends (read_refusal rest) (run_refused r s rest some (λ z. q.1 (q.0 ∙ z))))
+  -- its first command has the refusal f and leaves t
+  module _ (some : 0 < length rest) (f : ℕ) (e : f ≡ first_refusal r s rest) (t : S) (l : t ≡ first_leaves r s rest) where
+    pub playing_stopped : (f ≡ 0 → ⊥) → Ends (tape_run r s₀ tape) f k t
+    unfolding first_refusal first_leaves leaves or_else
+    playing_stopped x =
+        let u : t ≡ s = l ∙ rw (ne_eqb _ 0 (λ z. x (e ∙ z))) in
+        by_cases (eqb (read_refusal rest) 0)
+        (λ q.
+        let z = eqb-true (read_refusal rest) 0 q in
+        let g : f ≡ r.refusal s (command_of rest) = e ∙ rw q in
+        rw (u, g) (ends _ (run_stopped r s rest some z (λ y. x (g ∙ y)))))
+        (λ q.
+        let g : f ≡ read_refusal rest = e ∙ rw q in
+        rw (u, g) (ends _ (run_refused r s rest some (λ y. x (g ∙ y)))))
 
-    module _ (i : Instruction) (n : ℕ) (b : d ≡ Whole i n) where
-      whole : Reads rest (Whole i n)
-      whole = whole_read rest d a i n b
-
-      -- its command has the refusal f and leaves t
-      module _
-          (f : ℕ) (e : f ≡ r.refusal s (meaning rest i)) (t : S) (l : t ≡ rule_leaves r s (meaning rest i)) where
-        pub playing_stopped : (f ≡ 0 → ⊥) → Ends (tape_run r s₀ tape) f k t
-        unfolding leaves
-        playing_stopped x =
-            let g : f ≡ r.refusal s (command_of rest) = rw whole.1 at e in
-            let u : t ≡ s = l ∙ rw (ne_eqb (r.refusal s (meaning rest i)) 0 (λ z. x (e ∙ z))) in
-            rw (u, g) (ends _ (run_stopped r s rest some whole.0 (λ z. x (g ∙ z))))
-
-        pub playing_on :
-            ((s : S) (c : TapeCommand) → P s → r.refusal s c ≡ 0 → P (r.on s c)) → f ≡ 0 →
-            Playing r P s₀ tape t (take (length rest - n) (drop n rest)) (k + 1)
-        unfolding leaves
-        playing_on step z =
-            let g : r.refusal s (command_of rest) ≡ 0 = rw whole.1 at (sym e ∙ z) in
-            let u : t ≡ r.on s (command_of rest) =
-            l ∙ rw (eq-eqb (r.refusal s (meaning rest i)) 0 (sym e ∙ z), whole.1) in
-            let x = rest_shorter rest some in
-            rw (part_to_end, u, whole.2)
-            (record {
-              few = omega (arith, h.few);
-              keeps = step s (command_of rest) h.keeps g;
-              same = h.same ∙ ap (later k) (run_on r s rest some whole.0 g) ∙ later_one k _;
-            })
+    pub playing_on :
+        ((s : S) (c : TapeCommand) → P s → r.refusal s c ≡ 0 → P (r.on s c)) → f ≡ 0 → (n : ℕ) → n ≡ size_of rest →
+        Playing r P s₀ tape t (take (length rest - n) (drop n rest)) (k + 1)
+    unfolding first_leaves leaves
+    playing_on step z n q =
+        let v = sym e ∙ z in
+        let g = first_accepted r s rest v in
+        let u : t ≡ r.on s (command_of rest) = l ∙ rw (eq-eqb _ 0 v) in
+        let x = rest_shorter rest some in
+        rw (part_to_end, u, q)
+        (record {
+          few = omega (arith, h.few);
+          keeps = step s (command_of rest) h.keeps g;
+          same = h.same ∙ ap (later k) (run_on r s rest some (first_read r s rest v) g) ∙ later_one k _;
+        })

@@ -1,14 +1,15 @@
 -- What the inner functions are lent and answer. Assumes nothing: these are definitions.
-use Rattle.std.specs.Prelude.{◌≡◌, List, ℕ, ◌*◌, ◌≤◌, length}
+use Rattle.std.specs.Prelude.{◌≡◌, List, ℕ, ◌+◌, ◌*◌, ◌≤◌, ◌<◌, length, Result, MatchResult}
 use Rattle.table.specs.Limits.{max_tape}
 use Rattle.table.specs.Layout.{Table}
 use Rattle.table.specs.Inner.{WithinCapacity, command_for}
+use Rattle.table.specs.Replies.{number}
+use Rattle.table.specs.declared.refusals.Refusal.{Refusal}
+use Rattle.table.specs.declared.refusals.Refusal.TheVariants.{TornCommand}
 use Rattle.tape.specs.Steps.{TapeCommand, changes, reports, cuts_ring}
-use Rattle.tape.specs.Tapes.{operand_sizes, byte_of, size_of, command_of, read_refusal, numbers_from}
+use Rattle.tape.specs.Tapes.{size_of, command_of, read_refusal, numbers_from}
 use Rattle.tape.specs.declared.Instruction.{Instruction}
 use Rattle.tape.specs.declared.Instruction.TheVariants as instruction
-use Rattle.tape.specs.declared.Reading.{Reading}
-use Rattle.tape.specs.declared.Reading.TheVariants.{Whole, Refused}
 
 -- DECODING. The command that an instruction stands for; a ring's darts stay on the tape
 abbrev pub meaning : (tape : List ℕ) → Instruction → TapeCommand
@@ -16,22 +17,17 @@ meaning bs (instruction.Change c) = changes (command_for c)
 meaning bs instruction.Report = reports
 meaning bs (instruction.RingCut n) = cuts_ring (numbers_from (2 * n) 2 bs)
 
--- the first command's byte is b, which lies from m to n, and the operand table is lent
-pub record StartsBy (tape : List ℕ) (b m n : ℕ) (lent : List ℕ) : Type 0 where
-  pub byte : b ≡ byte_of tape
-  pub least : m ≤ b
-  pub most : b ≤ n
-  pub operands : lent ≡ operand_sizes
+-- the n numbers after a command's byte, where the tape has them
+abbrev pub HasOperands : (tape : List ℕ) → (n : ℕ) → Result (List ℕ) Refusal → Type 0
+HasOperands bs n r =
+    MatchResult r (λ xs. (1 + 2 * n ≤ length bs) × (xs ≡ numbers_from n 1 bs))
+    (λ e. (e ≡ TornCommand) × (length bs < 1 + 2 * n))
 
--- the refusal that an answer of the decoder gives
-abbrev pub refusal_in : Reading → ℕ
-refusal_in (Whole i n) = 0
-refusal_in (Refused n) = n
-
--- what an answer tells of the tape: the first command and its bytes, or why it cannot be read
-abbrev pub Reads : (tape : List ℕ) → Reading → Type 0
-Reads bs (Whole i n) = (read_refusal bs ≡ 0) × (meaning bs i ≡ command_of bs) × (n ≡ size_of bs)
-Reads bs (Refused n) = (n ≡ read_refusal bs) × (n ≡ 0 → ⊥)
+-- what an answer of the decoder tells of the tape: the first command and its bytes, or why it cannot be read
+abbrev pub Reads : (tape : List ℕ) → Result (Instruction × ℕ) Refusal → Type 0
+Reads bs r =
+    MatchResult r (λ p. (read_refusal bs ≡ 0) × (meaning bs p.0 ≡ command_of bs) × (p.1 ≡ size_of bs))
+    (λ e. number e ≡ read_refusal bs)
 
 -- PLAYING: a table within the capacity, and a tape whose commands a u32 can count
 pub record Playable (w : Table) (tape : List ℕ) : Type 0 where

@@ -1,9 +1,9 @@
-use Rattle.std.proofs.Common.{length, ◌-◌}
+use Rattle.std.proofs.Common.{drop}
+use Rattle.rings.specs.Rings.{links_of}
+use Rattle.rings.specs.Inner.{links_in}
 use Rattle.rings.proofs.Cutting.{Cutting}
 use Rattle.rings.proofs.cut.cut_along.Given as goal
 
-abbrev pub invariant-loop-k : goal.invariant-loop-k
-invariant-loop-k l = Cutting l.initial.table l.ring l.k l.table
-
-abbrev pub decreases-loop-k : goal.decreases-loop-k
-decreases-loop-k l = length l.ring - l.k
+abbrev pub invariant-loop-first : goal.invariant-loop-first
+invariant-loop-first l =
+    Cutting l.initial.table (links_of l.ring) (links_in (drop l.first-index l.links)) l.table

@@ -1,16 +1,17 @@
-use Rattle.std.proofs.Common.{◌≡◌, sym, ℕ, eqb, eqb-true}
-use Rattle.hypermap.proofs.Basics.Bools.{by_cases}
-use Rattle.table.specs.Refusals.{or_else}
-use Rattle.table.proofs.Stages.{made}
+use Rattle.std.proofs.Common.{sym, refl}
+use Rattle.table.proofs.Stages.{accepted, refused}
+use Rattle.table.proofs.Replying.{number_positive}
 use Rattle.rings.specs.Rings.{ring_leaves}
+use Rattle.rings.proofs.Conditions.{accepted_listed}
 use Rattle.rings.proofs.cut.cut_ring.Goals as goal
 
-no_last : (n : ℕ) → or_else n 0 ≡ n
-unfolding or_else
-no_last n = by_cases (eqb n 0) (λ t. rw t (sym (eqb-true n 0 t))) (λ t. rw t)
-
-pub returns : goal.returns
+pub returns-in_err-judge_ring-clause-table : goal.returns-in_err-judge_ring-clause-table
 unfolding ring_leaves
-returns c =
-    let p = c.cut_ring_unless.ensures in
-    let d = made _ _ _ _ _ _ (no_last _) (p.value, p.table) in record { value = d.0; table = d.1 }
+returns-in_err-judge_ring-clause-table c = refused _ _ _ _ c.in_err-judge_ring.ensures (number_positive _)
+
+pub cut_along-requires : goal.cut_along-requires
+cut_along-requires c = accepted_listed _ _ c.requires (sym c.in_ok-judge_ring.ensures)
+
+pub returns-clause-table : goal.returns-clause-table
+unfolding ring_leaves
+returns-clause-table c = accepted _ _ _ _ _ c.in_ok-judge_ring.ensures refl c.cut_along.ensures

@@ -1,9 +1,8 @@
-use Rattle.std.proofs.Common.{length, ◌-◌}
+use Rattle.std.proofs.Common.{drop}
+use Rattle.rings.specs.Inner.{links_in}
 use Rattle.rings.proofs.Paths.{Follows}
 use Rattle.rings.proofs.path.path_closes.Given as goal
 
-abbrev pub invariant-loop-k : goal.invariant-loop-k
-invariant-loop-k l = Follows l.table l.ring l.marks l.k
-
-abbrev pub decreases-loop-k : goal.decreases-loop-k
-decreases-loop-k l = length l.ring - l.k
+abbrev pub invariant-loop-first : goal.invariant-loop-first
+invariant-loop-first l =
+    Follows l.table l.marks (links_in l.links) l.before (links_in (drop l.first-index l.links))

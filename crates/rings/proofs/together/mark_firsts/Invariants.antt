@@ -1,9 +1,7 @@
-use Rattle.std.proofs.Common.{length, ◌-◌}
+use Rattle.std.proofs.Common.{drop}
+use Rattle.rings.specs.Inner.{links_in}
 use Rattle.rings.proofs.Telling.{Telling}
 use Rattle.rings.proofs.together.mark_firsts.Given as goal
 
-abbrev pub invariant-loop-k : goal.invariant-loop-k
-invariant-loop-k l = Telling l.table l.ring l.k l.marks
-
-abbrev pub decreases-loop-k : goal.decreases-loop-k
-decreases-loop-k l = length l.ring - l.k
+abbrev pub invariant-loop-first : goal.invariant-loop-first
+invariant-loop-first l = Telling l.table (links_in l.links) (links_in (drop l.first-index l.links)) l.marks

@@ -1,27 +1,10 @@
-use Rattle.std.proofs.Common.{sym, ◌∙◌}
-use Rattle.table.proofs.Accepting.{put_storable, take_out_storable, join_at, cut_at}
+use Rattle.table.proofs.Stages.{accepted, refused}
+use Rattle.table.proofs.Replying.{number_positive}
+use Rattle.std.proofs.Common.{refl}
 use Rattle.table.proofs.changes.perform.Goals as goal
 
-pub write_all_unless-requires : goal.write_all_unless-requires
-write_all_unless-requires c z = put_storable
-    (record { within = c.requires; accepted = sym c.put_refusal-refusal.ensures ∙ z })
+pub returns-in_err-judge-clause-table : goal.returns-in_err-judge-clause-table
+returns-in_err-judge-clause-table c = refused _ _ _ _ c.in_err-judge.ensures (number_positive _)
 
-pub write_all_unless-requires-in-TakeOut : goal.write_all_unless-requires-in-TakeOut
-write_all_unless-requires-in-TakeOut c z =
-    take_out_storable (record { within = c.requires; accepted = sym c.take_out_refusal-refusal.ensures ∙ z })
-
-pub write_swap_unless-requires : goal.write_swap_unless-requires
-write_swap_unless-requires c z = join_at
-    (record { within = c.requires; accepted = sym c.join_refusal-refusal.ensures ∙ z })
-
-pub write_swap_unless-requires-in-EdgeCut : goal.write_swap_unless-requires-in-EdgeCut
-write_swap_unless-requires-in-EdgeCut c z =
-    cut_at (record { within = c.requires; accepted = sym c.cut_refusal-refusal.ensures ∙ z })
-
-pub write_swap_unless-requires-in-VertexJoin : goal.write_swap_unless-requires-in-VertexJoin
-write_swap_unless-requires-in-VertexJoin c z =
-    join_at (record { within = c.requires; accepted = sym c.join_refusal-refusal-in-VertexJoin.ensures ∙ z })
-
-pub write_swap_unless-requires-in-VertexCut : goal.write_swap_unless-requires-in-VertexCut
-write_swap_unless-requires-in-VertexCut c z =
-    cut_at (record { within = c.requires; accepted = sym c.cut_refusal-refusal-in-VertexCut.ensures ∙ z })
+pub returns-clause-table : goal.returns-clause-table
+returns-clause-table c = accepted _ _ _ _ _ c.in_ok-judge.ensures refl c.write.ensures

@@ -1,21 +1,17 @@
 use Rattle.std.proofs.Common.{arith}
-use Rattle.tape.specs.Tapes.{command_of}
-use Rattle.tape.proofs.Decoding.{is_known, command_small, ring_sized, torn_reads, whole_refusal}
+use Rattle.tape.specs.Tapes.{command_of, command_size, operand_sizes}
+use Rattle.tape.proofs.Decoding.{ring_sized, torn_refusal, whole_refusal}
 use Rattle.tape.proofs.decode.ring.Goals as goal
 
-pub command_size-requires : goal.command_size-requires
-command_size-requires c = (c.requires.1, is_known 8 (omega arith) (omega arith))
-
 pub overflow_add-size : goal.overflow_add-size
-overflow_add-size c = omega (arith, command_small 8)
+unfolding command_size operand_sizes
+overflow_add-size c = omega arith
 
 pub returns-then-tape-size : goal.returns-then-tape-size
-returns-then-tape-size c = torn_reads (ring_sized c.requires.0 (cc)) c.if-tape-size.true
+returns-then-tape-size c = torn_refusal (ring_sized c.requires (cc)) c.if-tape-size.true
 
 pub returns : goal.returns
 unfolding command_of
-returns c = (
-  whole_refusal (ring_sized c.requires.0 (cc)) c.if-tape-size.false,
-  rw c.requires.0 (cc),
-  (ring_sized c.requires.0 (cc)).size,
-)
+returns c =
+    let s = ring_sized c.requires (cc) in
+    (whole_refusal s c.if-tape-size.false, rw c.requires (cc), s.size)

@@ -1,0 +1,45 @@
+-- How a reply follows from the stages of code: one that stops with a refusal, and one that goes on. Assumes nothing.
+use Rattle.std.proofs.Common.{◌≡◌, ℕ, Bool, true, false, not, Result, sym, ◌∙◌, refl, arith}
+use Rattle.std.specs.Result.{IsErrAnd}
+use Rattle.std.proofs.lemmas.Result.{err_from_is_err_and}
+use Rattle.table.specs.Refusals.{or_else, unless}
+use Rattle.table.specs.Replies.{number, reply}
+use Rattle.table.specs.declared.refusals.Refusal.{Refusal}
+use Rattle.table.proofs.Stages.{refused_first, refused_second}
+
+-- no refusal has the number 0
+pub number_positive : (r : Refusal) → number r ≡ 0 → ⊥
+number_positive r e = grind arith
+
+-- a stage by a test: the refusal where the test fails, and 0 where it holds
+pub fails : (r t : Bool) (n : ℕ) → r ≡ t → r ≡ false → n ≡ unless t n
+unfolding unless
+fails r t n e f = rw (sym e ∙ f)
+
+pub holds : (r t : Bool) (n : ℕ) → r ≡ t → r ≡ true → 0 ≡ unless t n
+unfolding unless
+holds r t n e f = rw (sym e ∙ f)
+
+-- and by a test that must not hold
+pub denied : (r t : Bool) (n : ℕ) → r ≡ t → r ≡ true → n ≡ unless (not t) n
+unfolding unless
+denied r t n e f = rw (sym e ∙ f)
+
+pub free : (r t : Bool) (n : ℕ) → r ≡ t → r ≡ false → 0 ≡ unless (not t) n
+unfolding unless
+free r t n e f = rw (sym e ∙ f)
+
+-- the exit of a `?`: what stopped the first stage is the reply
+pub stops :
+    {A : Type 0} (r : Result A Refusal) (d : Refusal) (n m : ℕ) → IsErrAnd r (λ y. y ≡ d) → number d ≡ n →
+    reply r ≡ or_else n m
+stops r d n m q e =
+    let p = err_from_is_err_and r q in rw (p.1, p.2) (refused_first n m (number d) e (number_positive d))
+
+-- or it replies as it stopped
+pub exits : {A : Type 0} (r : Result A Refusal) (d : Refusal) → IsErrAnd r (λ y. y ≡ d) → reply r ≡ number d
+exits r d q = let p = err_from_is_err_and r q in rw (p.1, p.2)
+
+-- past the `?` the second stage replies
+pub goes_on : (n m k : ℕ) → 0 ≡ n → k ≡ m → k ≡ or_else n m
+goes_on n m k e q = refused_second n m 0 k e refl q

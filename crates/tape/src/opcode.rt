@@ -1,0 +1,61 @@
+// The commands of a tape by their first byte, and the bytes of each: one place, for the decoder and the writer.
+ghost use Rattle.std.specs.Prelude.{◌≡◌};
+ghost use Rattle.tape.specs.Tapes.{command_size};
+ghost use Rattle.tape.specs.Opcodes.{byte_for, IsOpcode};
+
+use table::refusals::Refusal;
+
+#[derive(Clone, Copy, Debug, PartialEq, Eq)]
+pub enum Opcode {
+    Put = 1,
+    TakeOut = 2,
+    EdgeJoin = 3,
+    EdgeCut = 4,
+    VertexJoin = 5,
+    VertexCut = 6,
+    Report = 7,
+    RingCut = 8,
+}
+
+impl From<Opcode> for u8 {
+    ghost from_gives = { λ opcode byte. byte ≡ byte_for opcode };
+
+    fn from(opcode: Opcode) -> u8 {
+        opcode as u8
+    }
+}
+
+impl TryFrom<u8> for Opcode {
+    type Error = Refusal;
+
+    ghost try_from_gives = { IsOpcode };
+
+    fn try_from(byte: u8) -> Result<Opcode, Refusal> {
+        match byte {
+            1 => Ok(Opcode::Put),
+            2 => Ok(Opcode::TakeOut),
+            3 => Ok(Opcode::EdgeJoin),
+            4 => Ok(Opcode::EdgeCut),
+            5 => Ok(Opcode::VertexJoin),
+            6 => Ok(Opcode::VertexCut),
+            7 => Ok(Opcode::Report),
+            8 => Ok(Opcode::RingCut),
+            _ => Err(Refusal::UnknownCommand),
+        }
+    }
+}
+
+impl Opcode {
+    #[tactic(auto, unfolding(crate::specs::Tapes::command_size, crate::specs::Tapes::operand_sizes))]
+    // Its own byte and its operands'. Of a ring, the count of its double-links, without the pairs that follow it.
+    pub fn size(self) -> usize
+        ensures { result ≡ command_size (byte_for self) }
+    {
+        match self {
+            Opcode::Report => 1,
+            Opcode::RingCut => 2,
+            Opcode::Put | Opcode::TakeOut => 3,
+            Opcode::EdgeJoin | Opcode::EdgeCut | Opcode::VertexJoin | Opcode::VertexCut => 5,
+        }
+    }
+}
