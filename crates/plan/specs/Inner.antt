@@ -3,7 +3,6 @@ use Rattle.std.specs.Prelude.{◌≡◌, List, ◌++◌, ℕ, ◌≤◌, ◌<◌
 use Rattle.table.specs.Layout.{Table, hypermap_of}
 use Rattle.table.specs.Inner.{WithinCapacity}
 use Rattle.parts.specs.Counts.{counts_of}
-use Rattle.tape.specs.Tapes.{operand_sizes}
 use Rattle.tape.specs.Runs.{run_of}
 use Rattle.tape.specs.declared.Instruction.{Instruction}
 use Rattle.tape.specs.declared.Instruction.TheVariants as instruction
@@ -14,12 +13,6 @@ abbrev pub instruction_line : Table → Instruction → List ℕ
 instruction_line w (instruction.Change c) = ok_line
 instruction_line w instruction.Report = report_line (counts_of (hypermap_of w))
 instruction_line w (instruction.RingCut n) = ok_line
-
--- a tape that has a first command, a table to make it on, and the operand table
-pub record Takes (w : Table) (tape lent : List ℕ) : Type 0 where
-  pub table : WithinCapacity w
-  pub some : 0 < length tape
-  pub operands : lent ≡ operand_sizes
 
 -- the first command of the tape is the instruction i of n bytes, is accepted on the table w and leaves the table v: its
 -- line comes first, and the lines of the run from v over what comes after it follow; and likewise for the table

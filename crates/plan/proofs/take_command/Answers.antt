@@ -1,15 +1,21 @@
-use Rattle.plan.proofs.Taking.{refuses_unread, refuses_stopped, accepts}
+use Rattle.std.proofs.Common.{refl}
+use Rattle.table.proofs.Replying.{number_positive}
+use Rattle.plan.proofs.Taking.{exits, refuses_unread, refuses_stopped, accepts}
 use Rattle.plan.proofs.take_command.Goals as goal
 
-pub returns-in-Refused : goal.returns-in-Refused
-returns-in-Refused c = refuses_unread c.requires _ c.read.ensures _ c.in-Refused.is
+pub returns-in_err-instruction : goal.returns-in_err-instruction
+returns-in_err-instruction c =
+    exits _ _ _ _ c.from_residual.ensures.1
+    (refuses_unread _ _ c.requires.table c.requires.some _ c.in_err-instruction.ensures (number_positive _))
 
-pub returns-then-refusal-ne0 : goal.returns-then-refusal-ne0
-returns-then-refusal-ne0 c =
-    let s = c.take_step-refusal.ensures in
-    refuses_stopped c.requires _ c.read.ensures _ _ c.in-Whole.is _ s.value _ s.table c.if-refusal-ne0.true
+pub returns-in_err-take_step : goal.returns-in_err-take_step
+returns-in_err-take_step c =
+    let s = c.in_err-take_step.ensures in
+    exits _ _ _ _ c.from_residual-in_err-take_step.ensures.1
+    (refuses_stopped _ _ c.requires.table c.requires.some _ _ c.in_ok-instruction.ensures _ s.value _ s.table
+    (number_positive _))
 
 pub returns : goal.returns
 returns c =
-    let s = c.take_step-refusal.ensures in
-    accepts c.requires _ c.read.ensures _ _ c.in-Whole.is _ s.value _ s.table c.if-refusal-ne0.false
+    let s = c.in_ok-take_step.ensures in
+    accepts _ _ c.requires.table c.requires.some _ _ c.in_ok-instruction.ensures _ s.value _ s.table refl

@@ -1,22 +1,22 @@
-use Rattle.std.proofs.Common.{refl, arith}
-use Rattle.std.proofs.lemmas.Bool.{eqb-true, eqb-false}
+use Rattle.std.proofs.Common.{arith}
+use Rattle.std.proofs.lemmas.Bool.{eqb-true}
 use borrow.Author.Rules.{part_to_end}
-use Rattle.tape.specs.Tapes.{operand_sizes}
-use Rattle.plan.proofs.Writing.{writing_done, writing_done-table, writing_on}
+use Rattle.plan.proofs.Writing.{on_ok, writing_done, writing_done-table, writing_on, writing_out}
 use Rattle.plan.proofs.write_run.Goals as goal
 
-pub take_command-requires : goal.take_command-requires
-unfolding operand_sizes
-take_command-requires g c =
-    record { table = c.loop-rest.invariant.within; some = grind (arith, eqb-false); operands = refl }
+-- the buffer is nearly full
+pub loop-rest-preserved-then-len-gt-FULL : goal.loop-rest-preserved-then-len-gt-FULL
+loop-rest-preserved-then-len-gt-FULL g c =
+    rw (part_to_end, c.clear.ensures)
+    (writing_out
+    (writing_on c.loop-rest.invariant _ _ _ _ c.in-Ok.ensures c.in_ok-write_accepted-in-Ok.ensures) _ (rw c.deref-then-len-gt-FULL.ensures.0 at c.in_ok-write_all.ensures.bytes))
 
-pub loop-rest-preserved : goal.loop-rest-preserved
-loop-rest-preserved g c =
-    rw part_to_end
-    (writing_on c.loop-rest.invariant _ _ _ _ c.in-Ok.ensures c.in_ok-write_accepted-in-Ok.ensures)
-
+-- the tape ends
 pub returns-clause-lines : goal.returns-clause-lines
-returns-clause-lines g c = writing_done c.loop-rest.invariant (grind (arith, eqb-true))
+returns-clause-lines g c =
+    on_ok _ (rw c.deref-2.ensures.0 at c.write_all-2.ensures.bytes)
+    (writing_done c.loop-rest.invariant (grind (arith, eqb-true)) _)
 
 pub returns-clause-table : goal.returns-clause-table
-returns-clause-table g c = writing_done-table c.loop-rest.invariant (grind (arith, eqb-true))
+returns-clause-table g c =
+    on_ok _ c.write_all-2.ensures.bytes (λ _. writing_done-table c.loop-rest.invariant (grind (arith, eqb-true)))

@@ -5,4 +5,4 @@ use Rattle.plan.proofs.text.write_refused.Goals as goal
 
 pub returns : goal.returns
 unfolding refused_line
-returns g c = rw (decimal_formatted c.args.refusal (omega arith)) c.writeln.ensures.bytes
+returns g c = rw (← c.from.ensures, decimal_formatted c.from.result (omega arith)) c.writeln.ensures.bytes

@@ -14,8 +14,9 @@ regroup s t a b c d e f g h = simp append_assoc
 pub returns : goal.returns
 unfolding report_line
 returns g c =
-    let n = c.args.counts in
+    let n = c.counts-darts.result in
     rw (
+      ← c.counts-darts.ensures,
       decimal_formatted n.darts (omega arith),
       decimal_formatted n.edges (omega arith),
       decimal_formatted n.vertices (omega arith),
