@@ -1,6 +1,4 @@
-pub mod Copying
 pub mod Numerals
-pub mod Rooms
 pub mod Lines
-pub mod Stretching
+pub mod Taking
 pub mod Writing

@@ -1,20 +1,26 @@
--- The lines of a run that are written stretch by stretch. Assumes nothing.
-use Rattle.std.proofs.Common.{◌≡◌, List, [], ◌++◌, ℕ, ◌-◌, true, false, length, take, drop, Option, None, Some}
-use Rattle.std.proofs.Common.{refl, sym, ap, ◌∙◌, append_assoc, append-nil, arith}
-use Rattle.std.specs.Prelude.{cond}
-use borrow.Author.Rules.{part_to_end}
+-- The lines of a run, gathered in a buffer that is written now and then. Assumes nothing.
+use Rattle.std.proofs.Common.{◌≡◌, List, [], ◌++◌, ℕ, length, drop, Option, None, Some}
+use Rattle.std.proofs.Common.{Result, Ok, Err, refl, sym, ap, ◌∙◌, append_assoc, append-nil}
 use Rattle.std.specs.Io.KnownBytes.{Appends}
+use Rattle.std.specs.Result.{OnOk}
 use Rattle.table.specs.Layout.{Table}
-use Rattle.plan.specs.declared.Stretch.{Stretch}
+use Rattle.table.specs.Inner.{WithinCapacity}
+use Rattle.tape.specs.Steps.{step_rule}
+use Rattle.tape.specs.Runs.{run_of}
+use Rattle.tape.specs.declared.Instruction.{Instruction}
+use Rattle.tape.proofs.Playing.{run_none}
 use Rattle.plan.specs.Lines.{lines_of}
-use Rattle.plan.specs.Inner.{Ready, IsStretch}
+use Rattle.plan.specs.Inner.{instruction_line, Accepts}
+use Rattle.plan.proofs.Lines.{lines_none}
 
--- a is what a writer held at first, b what it holds
-pub record Writing (w₀ : Table) (tape : List ℕ) (w : Table) (rest out : List ℕ) (a b : Option (List ℕ)) : Type 0 where
-  pub ready : Ready w out
-  pub text : List ℕ
-  pub appends : Appends a b text
-  pub lines : lines_of w₀ tape ≡ text ++ lines_of w rest
+-- THE STATE: what is written, what the buffer holds and the lines of what is left are the lines of the run. a is what a
+-- writer held at first, b what it holds
+pub record Writing (w₀ : Table) (tape : List ℕ) (w : Table) (rest buffer : List ℕ) (a b : Option (List ℕ)) : Type 0 where
+  pub within : WithinCapacity w
+  pub written : List ℕ
+  pub appends : Appends a b written
+  pub lines : lines_of w₀ tape ≡ written ++ buffer ++ lines_of w rest
+  pub table : (run_of w₀ tape).state ≡ (run_of w rest).state
 
 appends_none : (a : Option (List ℕ)) → Appends a a []
 appends_none None = tt
@@ -27,34 +33,49 @@ appends_then (Some x) None c bs cs p q = absurd p
 appends_then (Some x) (Some y) None bs cs p q = absurd q
 appends_then (Some x) (Some y) (Some z) bs cs p q = q ∙ ap (λ l. l ++ cs) p ∙ append_assoc x bs cs
 
+-- what holds where a call succeeds
+pub on_ok : {T E : Type 0} {P Q : Type 0} (r : Result T E) → OnOk r P → (P → Q) → OnOk r Q
+on_ok (Ok x) p f = f p
+on_ok (Err e) p f = tt
+
 pub writing_first :
-    {w : Table} {tape out : List ℕ} (a : Option (List ℕ)) → Ready w out → Writing w tape w tape out a a
-writing_first a r = record { ready = r; text = []; appends = appends_none a; lines = refl }
+    {w : Table} {tape : List ℕ} (a : Option (List ℕ)) → WithinCapacity w → Writing w tape w tape [] a a
+writing_first a k = record { within = k; written = []; appends = appends_none a; lines = refl; table = refl }
 
 module _
-    {w₀ : Table} {tape : List ℕ} {w : Table} {rest out : List ℕ} {a b : Option (List ℕ)}
-    (h : Writing w₀ tape w rest out a b) {v : Table} {p : List ℕ} {s : Stretch} (l : IsStretch w rest out v p s)
-    (c : Option (List ℕ)) (n : Appends b c (take s.written p)) where
-  together : Appends a c (h.text ++ take s.written p)
-  together = appends_then a b c h.text (take s.written p) h.appends n
+    {w₀ : Table} {tape : List ℕ} {w : Table} {rest buffer : List ℕ} {a b : Option (List ℕ)}
+    (h : Writing w₀ tape w rest buffer a b) where
+  -- THE BUFFER written and emptied
+  pub writing_out : (c : Option (List ℕ)) → Appends b c buffer → Writing w₀ tape w rest [] a c
+  writing_out c k = record {
+    within = h.within;
+    written = h.written ++ buffer;
+    appends = appends_then a b c h.written buffer h.appends k;
+    lines = rw append-nil h.lines;
+    table = h.table;
+  }
 
-  -- the lines of the stretch after those before it
-  more : lines_of w₀ tape ≡ (h.text ++ take s.written p) ++ cond s.ended [] (lines_of v (drop s.read rest))
-  more = h.lines ∙ ap (λ t. h.text ++ t) l.lines ∙ sym (append_assoc h.text _ _)
+  -- THE END of the tape
+  module _ (e : length rest ≡ 0) where
+    pub writing_done : (c : Option (List ℕ)) → Appends b c buffer → Appends a c (lines_of w₀ tape)
+    writing_done c k =
+        rw (h.lines, lines_none w rest e, append-nil) (appends_then a b c h.written buffer h.appends k)
 
-  pub writing_end : s.ended ≡ true → Appends a c (lines_of w₀ tape)
-  writing_end e =
-      let all : lines_of w₀ tape ≡ h.text ++ take s.written p = more ∙ rw (e, append-nil) in
-      rw all together
+    pub writing_done-table : w ≡ (run_of w₀ tape).state
+    writing_done-table = sym (h.table ∙ ap (λ o. o.state) (run_none step_rule w rest e))
 
-  pub writing_on :
-      s.ended ≡ false → length p ≡ length out →
-      Writing w₀ tape v (take (length rest - s.read) (drop s.read rest)) p a c
-  writing_on e k =
-      rw part_to_end
-      (record {
-        ready = record { table = l.within; room = omega (arith, h.ready.room) };
-        text = h.text ++ take s.written p;
-        appends = together;
-        lines = more ∙ rw e;
-      })
+  -- ITS FIRST COMMAND
+  module _ (v : Table) (p : List ℕ) where
+    pub writing_on :
+        (i : Instruction) (n : ℕ) → Accepts w rest i n v → p ≡ buffer ++ instruction_line v i →
+        Writing w₀ tape v (drop n rest) p a b
+    writing_on i n s q = record {
+      within = s.within;
+      written = h.written;
+      appends = h.appends;
+      lines =
+          h.lines ∙ ap (λ l. h.written ++ buffer ++ l) s.lines ∙
+          sym (append_assoc (h.written ++ buffer) (instruction_line v i) _) ∙
+          rw (q, append_assoc h.written buffer (instruction_line v i));
+      table = h.table ∙ s.table;
+    }

@@ -1,14 +1,22 @@
-use Rattle.plan.proofs.Writing.{writing_first, writing_end, writing_on}
+use Rattle.std.proofs.Common.{arith}
+use Rattle.std.proofs.lemmas.Bool.{eqb-true}
+use borrow.Author.Rules.{part_to_end}
+use Rattle.plan.proofs.Writing.{on_ok, writing_done, writing_done-table, writing_on, writing_out}
 use Rattle.plan.proofs.write_run.Goals as goal
 
-pub loop-rest-init : goal.loop-rest-init
-loop-rest-init g c = writing_first _ c.requires
+-- the buffer is nearly full
+pub loop-rest-preserved-then-len-gt-FULL : goal.loop-rest-preserved-then-len-gt-FULL
+loop-rest-preserved-then-len-gt-FULL g c =
+    rw (part_to_end, c.clear.ensures)
+    (writing_out
+    (writing_on c.loop-rest.invariant _ _ _ _ c.in-Ok.ensures c.in_ok-write_accepted-in-Ok.ensures) _ (rw c.deref-then-len-gt-FULL.ensures.0 at c.in_ok-write_all.ensures.bytes))
 
-pub returns-then-stretch : goal.returns-then-stretch
-returns-then-stretch g c =
-    writing_end c.loop-rest.invariant c.play_stretch-stretch.ensures _ c.in_ok-write_all.ensures.bytes c.if-stretch.true
+-- the tape ends
+pub returns-clause-lines : goal.returns-clause-lines
+returns-clause-lines g c =
+    on_ok _ (rw c.deref-2.ensures.0 at c.write_all-2.ensures.bytes)
+    (writing_done c.loop-rest.invariant (grind (arith, eqb-true)) _)
 
-pub loop-rest-preserved : goal.loop-rest-preserved
-loop-rest-preserved g c =
-    writing_on c.loop-rest.invariant c.play_stretch-stretch.ensures _ c.in_ok-write_all.ensures.bytes
-    c.if-stretch.false c.play_stretch-stretch.auto.out
+pub returns-clause-table : goal.returns-clause-table
+returns-clause-table g c =
+    on_ok _ c.write_all-2.ensures.bytes (λ _. writing_done-table c.loop-rest.invariant (grind (arith, eqb-true)))

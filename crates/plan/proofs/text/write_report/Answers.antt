@@ -1,52 +1,31 @@
-use Rattle.std.proofs.Common.{ℕ, w32, to_z-of_z, rules, arith, length-append}
-use mir.Val.{SFits}
-use Rattle.writer.proofs.Laying.{lays_then}
+use Rattle.std.proofs.Common.{◌≡◌, List, [], ◌∷◌, ◌++◌, ℕ, rules, arith, append_assoc}
+use Rattle.std.specs.Fmt.{decimal, signed_decimal}
 use Rattle.plan.specs.Lines.{report_line}
+use Rattle.plan.proofs.Numerals.{decimal_formatted, signed_formatted}
 use Rattle.plan.proofs.text.write_report.Goals as goal
 
-pub write_number-darts-requires : goal.write_number-darts-requires
-unfolding report_line
-write_number-darts-requires c = record { room = omega (arith, length-append {A = ℕ}) }
-
-pub write_two-vertices-requires : goal.write_two-vertices-requires
-unfolding report_line
-write_two-vertices-requires c = record { room = omega (arith, length-append {A = ℕ}) }
-
-pub write_two-components-requires : goal.write_two-components-requires
-unfolding report_line
-write_two-components-requires c = record { room = omega (arith, length-append {A = ℕ}) }
-
-pub write_byte-space-requires : goal.write_byte-space-requires
-unfolding report_line
-write_byte-space-requires c = record { room = omega (arith, length-append {A = ℕ}) }
-
--- the characteristic is read back from the bits of an i32
-pub write_signed-characteristic-requires : goal.write_signed-characteristic-requires
-unfolding report_line
-write_signed-characteristic-requires c =
-    let f : SFits w32 c.args.c.characteristic = search rules in
-    record { room = rw (to_z-of_z f) (omega (arith, length-append {A = ℕ})) }
-
-pub write_two-lifts-requires : goal.write_two-lifts-requires
-unfolding report_line
-write_two-lifts-requires c =
-    let f : SFits w32 c.args.c.characteristic = search rules in
-    let signed = rw (to_z-of_z f) at c.write_signed-characteristic.ensures in
-    record { room = omega (arith, length-append {A = ℕ}) }
-
-pub write_byte-requires : goal.write_byte-requires
-unfolding report_line
-write_byte-requires c =
-    let f : SFits w32 c.args.c.characteristic = search rules in
-    let signed = rw (to_z-of_z f) at c.write_signed-characteristic.ensures in
-    record { room = omega (arith, length-append {A = ℕ}) }
+-- the numbers a to h with s between them and t at the end: as the line groups them, and as `writeln!` does
+regroup :
+    (s t a b c d e f g h : List ℕ) →
+    a ++ ((s ++ b) ++ (s ++ c)) ++ ((s ++ d) ++ (s ++ e)) ++ s ++ f ++ ((s ++ g) ++ (s ++ h)) ++ t ≡
+    (a ++ (s ++ (b ++ (s ++ (c ++ (s ++ (d ++ (s ++ (e ++ (s ++ (f ++ s))))))))))) ++ (g ++ (s ++ (h ++ t)))
+regroup s t a b c d e f g h = simp append_assoc
 
 pub returns : goal.returns
 unfolding report_line
-returns c =
-    let f : SFits w32 c.args.c.characteristic = search rules in
-    let signed = rw (to_z-of_z f) at c.write_signed-characteristic.ensures in
-    let vertices = lays_then c.write_number-darts.ensures c.write_two-vertices.ensures in
-    let components = lays_then vertices c.write_two-components.ensures in
-    let characteristic = lays_then (lays_then components c.write_byte-space.ensures) signed in
-    lays_then (lays_then characteristic c.write_two-lifts.ensures) c.write_byte.ensures
+returns g c =
+    let n = c.counts-darts.result in
+    rw (
+      ← c.counts-darts.ensures,
+      decimal_formatted n.darts (omega arith),
+      decimal_formatted n.edges (omega arith),
+      decimal_formatted n.vertices (omega arith),
+      decimal_formatted n.faces (omega arith),
+      decimal_formatted n.components (omega arith),
+      signed_formatted n.characteristic (search rules),
+      decimal_formatted n.genus (omega arith),
+      decimal_formatted n.lifts (omega arith),
+      regroup (32 ∷ []) (10 ∷ []) (decimal n.darts) (decimal n.edges) (decimal n.vertices) (decimal n.faces)
+          (decimal n.components) (signed_decimal _) (decimal n.genus) (decimal n.lifts),
+    )
+    c.writeln.ensures.bytes
