@@ -49,7 +49,7 @@ pub copied_words :
     flat_map (λ p. p) (take n ps) ≡ words_of ls
 copied_words ls ps k n c e f =
     let p : take n ps ≡ map pair_of ls =
-        rw (f, ← e) (c.pairs ∙ ap (map pair_of) (take_all k ls (omega (arith, e)))) in
+    rw (f, ← e) (c.pairs ∙ ap (map pair_of) (take_all k ls (omega (arith, e)))) in
     rw p (words_in_pairs ls)
 
 length_words : (ls : List DoubleLink) → length (words_of ls) ≡ 2 * length ls
