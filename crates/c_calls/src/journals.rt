@@ -8,7 +8,8 @@ ghost use Rattle.tape.specs.Steps.{changes, cuts_ring};
 ghost use Rattle.journal_calls.specs.Calls.{state_of, perform_reply, play_reply, checkpoint_reply, back_reply};
 ghost use Rattle.journal_calls.specs.Calls.{journaled_of, journaled_run_of, undone_of};
 
-use journal_calls::{Head, Journaled, JournaledRun, Undone};
+use journal_calls::Head;
+use journal_calls::c_replies::{Journaled, JournaledRun, Undone};
 use table::Dimension;
 
 // CHANGES
@@ -17,7 +18,7 @@ use table::Dimension;
 pub extern "C" fn lotskadi_journal_put(
     table: &mut [u16],
     journal: &mut [u16],
-    head: Head,
+    mut head: Head,
     x: u32,
 ) -> Journaled
     ensures value { result ≡ journaled_of (perform_reply
@@ -27,14 +28,15 @@ pub extern "C" fn lotskadi_journal_put(
     ensures journal { journal.new ≡ (perform_reply
         (state_of table.old journal.old head) (changes (puts x))).state.journal }
 {
-    journal_calls::put(table, journal, head, x)
+    let answer = journal_calls::put(table, journal, &mut head, x);
+    Journaled::new(answer, head)
 }
 
 #[unsafe(no_mangle)]
 pub extern "C" fn lotskadi_journal_take_out(
     table: &mut [u16],
     journal: &mut [u16],
-    head: Head,
+    mut head: Head,
     x: u32,
 ) -> Journaled
     ensures value { result ≡ journaled_of (perform_reply
@@ -44,14 +46,15 @@ pub extern "C" fn lotskadi_journal_take_out(
     ensures journal { journal.new ≡ (perform_reply
         (state_of table.old journal.old head) (changes (takes_out x))).state.journal }
 {
-    journal_calls::take_out(table, journal, head, x)
+    let answer = journal_calls::take_out(table, journal, &mut head, x);
+    Journaled::new(answer, head)
 }
 
 #[unsafe(no_mangle)]
 pub extern "C" fn lotskadi_journal_edge_join(
     table: &mut [u16],
     journal: &mut [u16],
-    head: Head,
+    mut head: Head,
     a: u32,
     b: u32,
 ) -> Journaled
@@ -62,14 +65,15 @@ pub extern "C" fn lotskadi_journal_edge_join(
     ensures journal { journal.new ≡ (perform_reply
         (state_of table.old journal.old head) (changes (joins edge a b))).state.journal }
 {
-    journal_calls::join(table, journal, head, Dimension::Edge, a, b)
+    let answer = journal_calls::join(table, journal, &mut head, Dimension::Edge, a, b);
+    Journaled::new(answer, head)
 }
 
 #[unsafe(no_mangle)]
 pub extern "C" fn lotskadi_journal_vertex_join(
     table: &mut [u16],
     journal: &mut [u16],
-    head: Head,
+    mut head: Head,
     a: u32,
     b: u32,
 ) -> Journaled
@@ -80,14 +84,15 @@ pub extern "C" fn lotskadi_journal_vertex_join(
     ensures journal { journal.new ≡ (perform_reply
         (state_of table.old journal.old head) (changes (joins vertex a b))).state.journal }
 {
-    journal_calls::join(table, journal, head, Dimension::Vertex, a, b)
+    let answer = journal_calls::join(table, journal, &mut head, Dimension::Vertex, a, b);
+    Journaled::new(answer, head)
 }
 
 #[unsafe(no_mangle)]
 pub extern "C" fn lotskadi_journal_edge_cut(
     table: &mut [u16],
     journal: &mut [u16],
-    head: Head,
+    mut head: Head,
     a: u32,
     b: u32,
 ) -> Journaled
@@ -98,14 +103,15 @@ pub extern "C" fn lotskadi_journal_edge_cut(
     ensures journal { journal.new ≡ (perform_reply
         (state_of table.old journal.old head) (changes (cuts edge a b))).state.journal }
 {
-    journal_calls::cut(table, journal, head, Dimension::Edge, a, b)
+    let answer = journal_calls::cut(table, journal, &mut head, Dimension::Edge, a, b);
+    Journaled::new(answer, head)
 }
 
 #[unsafe(no_mangle)]
 pub extern "C" fn lotskadi_journal_vertex_cut(
     table: &mut [u16],
     journal: &mut [u16],
-    head: Head,
+    mut head: Head,
     a: u32,
     b: u32,
 ) -> Journaled
@@ -116,14 +122,15 @@ pub extern "C" fn lotskadi_journal_vertex_cut(
     ensures journal { journal.new ≡ (perform_reply
         (state_of table.old journal.old head) (changes (cuts vertex a b))).state.journal }
 {
-    journal_calls::cut(table, journal, head, Dimension::Vertex, a, b)
+    let answer = journal_calls::cut(table, journal, &mut head, Dimension::Vertex, a, b);
+    Journaled::new(answer, head)
 }
 
 #[unsafe(no_mangle)]
 pub extern "C" fn lotskadi_journal_ring_cut(
     table: &mut [u16],
     journal: &mut [u16],
-    head: Head,
+    mut head: Head,
     ring: &[u16],
 ) -> Journaled
     ensures value { result ≡ journaled_of (perform_reply
@@ -133,7 +140,8 @@ pub extern "C" fn lotskadi_journal_ring_cut(
     ensures journal { journal.new ≡ (perform_reply
         (state_of table.old journal.old head) (cuts_ring ring.now)).state.journal }
 {
-    journal_calls::ring_cut(table, journal, head, ring)
+    let answer = journal_calls::ring_cut(table, journal, &mut head, ring);
+    Journaled::new(answer, head)
 }
 
 // A TAPE
@@ -142,7 +150,7 @@ pub extern "C" fn lotskadi_journal_ring_cut(
 pub extern "C" fn lotskadi_journal_play(
     table: &mut [u16],
     journal: &mut [u16],
-    head: Head,
+    mut head: Head,
     tape: &[u8],
 ) -> JournaledRun
     ensures value { result ≡ journaled_run_of
@@ -152,29 +160,32 @@ pub extern "C" fn lotskadi_journal_play(
     ensures journal { journal.new ≡
         (play_reply (state_of table.old journal.old head) tape.now).state.journal }
 {
-    journal_calls::play(table, journal, head, tape)
+    let answer = journal_calls::play(table, journal, &mut head, tape);
+    JournaledRun::new(answer, head)
 }
 
 // NAMED STATES
 
 #[unsafe(no_mangle)]
-pub extern "C" fn lotskadi_set_checkpoint(journal: &[u16], head: Head, checkpoint: u32) -> Journaled
+pub extern "C" fn lotskadi_set_checkpoint(journal: &[u16], mut head: Head, checkpoint: u32) -> Journaled
     ensures { (w : Table) →
         result ≡ journaled_of (checkpoint_reply (state_of w journal.now head) checkpoint) }
 {
-    journal_calls::set_checkpoint(journal, head, checkpoint)
+    let answer = journal_calls::set_checkpoint(journal, &mut head, checkpoint);
+    Journaled::new(answer, head)
 }
 
 #[unsafe(no_mangle)]
 pub extern "C" fn lotskadi_go_back(
     table: &mut [u16],
     journal: &[u16],
-    head: Head,
+    mut head: Head,
     checkpoint: u32,
 ) -> Undone
     ensures value { result ≡ undone_of (back_reply (state_of table.old journal.now head) checkpoint) }
     ensures table { table.new ≡
         (back_reply (state_of table.old journal.now head) checkpoint).state.table }
 {
-    journal_calls::go_back(table, journal, head, checkpoint)
+    let answer = journal_calls::go_back(table, journal, &mut head, checkpoint);
+    Undone::new(answer, head)
 }

@@ -4,25 +4,32 @@ use mathlib.Core.Path.{◌≡◌, refl, ap, sym, ◌∙◌}
 use mathlib.Core.Bool.{true, not, ◌&&◌}
 use mathlib.Core.Logic.{◌≢◌}
 use mathlib.Core.List.{List}
-use Prim.Native.Nat.{ℕ, ◌-◌, ◌≤◌, ◌<◌}
+use Prim.Native.Nat.{ℕ, ◌-◌, ◌≤◌}
 use native.Mathlib.Omega.{arith}
 use lib.Dec.{ltb, eqb}
-use lib.ListN.{length}
-use borrow.Author.Tests.{eqb-false, not-true, eq-eqb, ne_eqb, le-leb, lt-leb, ltb-true}
+use borrow.Author.Tests.{eqb-false, not-true, eq-eqb, ne_eqb}
 use Rattle.hypermap.proofs.Basics.Bools.{by_cases, and_left, and_right}
 use Rattle.table.specs.Limits.{max_tape, checkpoint_count}
 use Rattle.table.specs.Limits as limits
-use Rattle.table.specs.Refusals.{wrong_size, undo_unfit, no_mark, or_else, unless}
+use Rattle.table.specs.Refusals.{undo_unfit, no_mark, or_else}
 use Rattle.table.specs.Layout.{Table}
 use Rattle.table.specs.Commands.{leaves}
 use Rattle.table.proofs.Stages.{passed, fitting, refused_first, refused}
 use Rattle.tape.specs.Steps.{TapeCommand}
 use Rattle.tape.specs.Runs.{tape_run, told_of}
 use Rattle.tape.specs.declared.Run.{Run}
+use Rattle.tape.specs.declared.Stopped.{Stopped}
+use Rattle.tape.specs.Replies.{run_reply}
+use Rattle.tape.proofs.Playing.{StoppedAtOnce, stopped_reply}
+use Rattle.std.proofs.Common.{Result, Err}
+use Rattle.table.specs.Replies.{number}
+use Rattle.table.specs.declared.refusals.Refusal.{Refusal}
+use Rattle.table.specs.declared.refusals.Refusal.TheVariants.{NoMark}
+use Rattle.table.proofs.Replying.{number_positive, goes_on}
 use Rattle.soundness.specs.Soundness.{table_refusal, tape_refusal}
 use Rattle.soundness.proofs.Passing.{table_within}
 use Rattle.journal.specs.Entries.{Journal}
-use Rattle.journal.specs.Heads.{has_room, head_fits, head_refusal, checkpoint_of, with_length}
+use Rattle.journal.specs.Heads.{has_room, head_fits, head_refusal, checkpoint_of}
 use Rattle.journal.specs.Heads.{with_checkpoint, cut_back, set_refusal, back_refusal}
 use Rattle.journal.specs.Journaling.{Recorded, journaled_refusal, journal_rule}
 use Rattle.journal.specs.Undoing.{undoing}
@@ -99,32 +106,33 @@ abbrev GivesRun : Reply → Run → State → Type 0
 GivesRun r n t = record { value : n ≡ told_of r; state : t ≡ r.state }
 
 module _ (s : State) (bs : List ℕ) where
-  unplayed : (n : ℕ) → n ≡ journal_play_refusal s bs → (n ≡ 0 → ⊥) → GivesRun (play_reply s bs) (record { number = n; accepted = 0 }) s
+  unplayed :
+      (x : Result ℕ Stopped) (d : Refusal) → StoppedAtOnce x d → number d ≡ journal_play_refusal s bs →
+      GivesRun (play_reply s bs) (run_reply x) s
   unfolding play_reply
-  unplayed n e d =
-      rw (ne_eqb (journal_play_refusal s bs) 0 (λ z. d (e ∙ z)))
+  unplayed x d q e =
+      rw (stopped_reply x d q, ne_eqb (journal_play_refusal s bs) 0 (λ z. number_positive d (e ∙ z)))
       (record { value = ap (λ k. record { number = k; accepted = 0 }) e; state = refl })
 
-  pub play_long : max_tape < length bs → GivesRun (play_reply s bs) (record { number = wrong_size; accepted = 0 }) s
-  unfolding journal_play_refusal tape_refusal or_else unless
-  play_long l = unplayed wrong_size (rw (lt-leb (length bs) max_tape l)) (λ z. absurd (omega arith))
+  pub play_long :
+      (x : Result ℕ Stopped) (d : Refusal) → StoppedAtOnce x d → number d ≡ tape_refusal bs →
+      GivesRun (play_reply s bs) (run_reply x) s
+  unfolding journal_play_refusal
+  play_long x d q e =
+      unplayed x d q (refused_first (tape_refusal bs) (state_refusal s) (number d) e (number_positive d))
 
-  module _ (h : length bs ≤ max_tape) where
-    judged : journal_play_refusal s bs ≡ state_refusal s
-    unfolding journal_play_refusal tape_refusal or_else unless
-    judged = rw (le-leb (length bs) max_tape h)
-
+  module _ (h : 0 ≡ tape_refusal bs) where
     pub play_bent :
-        (n : ℕ) → n ≡ state_refusal s → (n ≡ 0 → ⊥) → GivesRun (play_reply s bs) (record { number = n; accepted = 0 }) s
-    play_bent n e d = unplayed n (e ∙ sym judged) d
+        (x : Result ℕ Stopped) (d : Refusal) → StoppedAtOnce x d → number d ≡ state_refusal s →
+        GivesRun (play_reply s bs) (run_reply x) s
+    unfolding journal_play_refusal
+    play_bent x d q e = unplayed x d q (goes_on (tape_refusal bs) (state_refusal s) (number d) h e)
 
     pub played :
         0 ≡ state_refusal s → (r : Run) → r ≡ told_of (tape_run journal_rule (recorded_in s) bs) → (t : Recorded) →
         t ≡ (tape_run journal_rule (recorded_in s) bs).state → GivesRun (play_reply s bs) r (with_recorded s t)
-    unfolding play_reply
-    played z r e t q =
-        rw (eq-eqb (journal_play_refusal s bs) 0 (judged ∙ sym z))
-        (record { value = e; state = ap (with_recorded s) q })
+    unfolding play_reply journal_play_refusal or_else
+    played z r e t q = rw (← h, ← z) (record { value = e; state = ap (with_recorded s) q })
 
 -- A CHECKPOINT
 module _ (j : Journal) (h : Head) (c : ℕ) (w : Table) where
@@ -148,23 +156,30 @@ module _ (j : Journal) (h : Head) (c : ℕ) (w : Table) where
 
 -- GOING BACK
 module _ (s : State) (c : ℕ) where
-  stays : (k : ℕ) → k ≡ back_call_refusal s c → (k ≡ 0 → ⊥) → GivesRun (back_reply s c) (record { number = k; accepted = 0 }) s
+  stays :
+      (x : Result ℕ Stopped) (d : Refusal) → StoppedAtOnce x d → number d ≡ back_call_refusal s c →
+      GivesRun (back_reply s c) (run_reply x) s
   unfolding back_reply
-  stays k f d =
-      rw (ne_eqb (back_call_refusal s c) 0 (λ z. d (f ∙ z)))
-      (record { value = ap (λ i. record { number = i; accepted = 0 }) f; state = refl })
+  stays x d q e =
+      rw (stopped_reply x d q, ne_eqb (back_call_refusal s c) 0 (λ z. number_positive d (e ∙ z)))
+      (record { value = ap (λ i. record { number = i; accepted = 0 }) e; state = refl })
 
-  pub back_bent : (n : ℕ) → n ≡ state_refusal s → (n ≡ 0 → ⊥) → GivesRun (back_reply s c) (record { number = n; accepted = 0 }) s
+  pub back_bent :
+      (x : Result ℕ Stopped) (d : Refusal) → StoppedAtOnce x d → number d ≡ state_refusal s →
+      GivesRun (back_reply s c) (run_reply x) s
   unfolding back_call_refusal
-  back_bent n e d = stays n (refused_first _ _ n e d) d
+  back_bent x d q e =
+      stays x d q (refused_first (state_refusal s) (back_refusal s.head c) (number d) e (number_positive d))
 
   module _ (z : 0 ≡ state_refusal s) where
     judged_back : back_call_refusal s c ≡ back_refusal s.head c
     unfolding back_call_refusal or_else
     judged_back = rw (← z)
 
-    pub back_none : back_refusal s.head c ≡ no_mark → GivesRun (back_reply s c) (record { number = no_mark; accepted = 0 }) s
-    back_none f = stays no_mark (sym (judged_back ∙ f)) (λ y. absurd (omega arith))
+    pub back_none :
+        back_refusal s.head c ≡ no_mark → (x : Stopped) → (x.refusal ≡ NoMark) × (x.accepted ≡ 0) →
+        GivesRun (back_reply s c) (run_reply (Err x)) s
+    back_none f x q = stays (Err x) NoMark q (sym (judged_back ∙ f))
 
     module _
         (r : ℕ) (q : (back_refusal s.head c ≡ 0) × (r ≡ checkpoint_of s.head c)) (u : Run) (v : Table)

@@ -20,10 +20,10 @@ mod judging;
 pub use journal::Head;
 use journal::{adding, run, undo};
 use judging::judge_state;
-use table::limits::MAX_TAPE;
+use soundness::judge_tape;
 use table::refusals::Refusal;
 use table::{Change, Dimension};
-use tape::Stopped;
+use tape::{Run, Stopped};
 
 // CHANGES: one call makes them all; the others name one change each.
 
@@ -137,9 +137,7 @@ pub fn play(
     ensures state { state_of table.new journal.new head.new ≡
         (play_reply (state_of table.old journal.old head.old) tape.now).state }
 {
-    if MAX_TAPE < tape.len() {
-        return Err(Refusal::WrongSize.into());
-    }
+    judge_tape(tape)?;
     judge_state(table, journal, head)?;
     run::run_tape(table, journal, &mut head.length, tape)
 }
@@ -167,13 +165,11 @@ pub fn go_back(table: &mut [u16], journal: &[u16], head: &mut Head, c: u32) -> R
         (back_reply (state_of table.old journal.now head.old) c).state }
 {
     judge_state(table, journal, head)?;
-    let to = head.checkpoint(c).ok_or(Refusal::NoMark)?;
+    let Some(to) = head.checkpoint(c) else {
+        return Err(Refusal::NoMark.into());
+    };
     let used = head.length;
     let went = undo::undo_back(table, journal, used, to);
-    let undone = match went {
-        Ok(undone) => undone,
-        Err(stopped) => stopped.accepted,
-    };
-    head.cut_back(used - undone);
+    head.cut_back(used - Run::from(went).accepted);
     went
 }

@@ -27,6 +27,7 @@ use Rattle.writer.specs.Canonical.{tape_of}
 use Rattle.writer.specs.Inner.{Written, written_in, written_of, written_leaves}
 use Rattle.tape.specs.declared.Stopped.{Stopped}
 use Rattle.tape.specs.Replies.{run_reply}
+use Rattle.tape.proofs.Playing.{StoppedAtOnce, stopped_reply}
 use Rattle.soundness.specs.Soundness.{table_refusal, tape_refusal}
 use Rattle.table.specs.Limits.{max_tape}
 use Rattle.kernel.specs.Tapes.{play_refusal, play_outcome, needs_answer, tape_answer, tape_leaves}
@@ -46,15 +47,6 @@ tape_short bs l = rw (le-leb (length bs) max_tape l)
 -- A RUN
 abbrev Answers : (w : Table) (bs : List ℕ) → Result ℕ Stopped → Type 0
 Answers w bs r = (run_reply r ≡ told_of (play_outcome w bs)) × (w ≡ (play_outcome w bs).state)
-
--- what a `?` leaves of it, before the first command
-abbrev StoppedAtOnce : Result ℕ Stopped → Refusal → Type 0
-StoppedAtOnce r d = IsErrAnd r (λ y. (y.refusal ≡ d) × (y.accepted ≡ 0))
-
-stopped_reply :
-    (r : Result ℕ Stopped) (d : Refusal) → StoppedAtOnce r d →
-    run_reply r ≡ record { number = number d; accepted = 0 }
-stopped_reply r d q = let p = err_from_is_err_and r q in rw (p.1, p.2.0, p.2.1)
 
 stops :
     (w : Table) (bs : List ℕ) (r : Result ℕ Stopped) (d : Refusal) → StoppedAtOnce r d →

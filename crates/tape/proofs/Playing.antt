@@ -11,6 +11,13 @@ use lib.Dec.{eqb}
 use borrow.Author.Rules.{part_to_end}
 use Rattle.hypermap.proofs.Basics.Bools.{by_cases}
 use Rattle.table.specs.Refusals.{or_else}
+use Rattle.std.proofs.Common.{Result}
+use Rattle.std.specs.Result.{IsErrAnd}
+use Rattle.std.proofs.lemmas.Result.{err_from_is_err_and}
+use Rattle.table.specs.declared.refusals.Refusal.{Refusal}
+use Rattle.table.specs.Replies.{number}
+use Rattle.tape.specs.Replies.{run_reply}
+use Rattle.tape.specs.declared.Stopped.{Stopped}
 use Rattle.table.specs.Commands.{leaves}
 use Rattle.table.proofs.Stages.{passed, refused_first, refused}
 use Rattle.table.specs.Runs.{Rule, rule_leaves, Outcome, stopped, one_more, run_by}
@@ -141,3 +148,12 @@ module _
           keeps = step s (command_of rest) h.keeps g;
           same = h.same ∙ ap (later k) (run_on r s rest some (first_read r s rest v) g) ∙ later_one k _;
         })
+
+-- A RUN REFUSED before its first command: what a `?` leaves of a refusal
+abbrev pub StoppedAtOnce : Result ℕ Stopped → Refusal → Type 0
+StoppedAtOnce r d = IsErrAnd r (λ y. (y.refusal ≡ d) × (y.accepted ≡ 0))
+
+pub stopped_reply :
+    (r : Result ℕ Stopped) (d : Refusal) → StoppedAtOnce r d →
+    run_reply r ≡ record { number = number d; accepted = 0 }
+stopped_reply r d q = let p = err_from_is_err_and r q in rw (p.1, p.2.0, p.2.1)
