@@ -8,6 +8,7 @@ use Prim.Native.Nat.{ℕ, ◌<◌}
 use native.Mathlib.Omega.{arith}
 use lib.Dec.{ltb, eqb}
 use borrow.Author.Tests.{eqb-true, eqb-false, ltb-true, lt-ltb, not-true}
+use Rattle.std.specs.Prelude.{unwrap_or}
 use Rattle.hypermap.specs.Hypermap.{Dimension, edge, vertex, is_dart, of, distance, same_orbit}
 use Rattle.hypermap.specs.Laws.{IsDistance}
 use Rattle.hypermap.specs.Ring.{DoubleLink, is_double_link, all_links, pairs_differ}
@@ -36,7 +37,7 @@ abbrev found : (w : Table) (k : Dimension) (a b : ℕ) → Answer
 found w k a b = record {
   number = 0;
   yes = same_orbit (hypermap_of w) (of k) a b;
-  count = (distance_found w (of k) a b).steps;
+  count = unwrap_or (distance_found w (of k) a b) 0;
 }
 
 asked_given :

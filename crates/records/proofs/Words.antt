@@ -4,11 +4,11 @@ use mathlib.Core.Path.{◌≡◌, refl, sym, subst, ap, ◌∙◌}
 use mathlib.Core.Bool.{Bool, true, false, cond}
 use mathlib.Core.List.{List, [], ◌∷◌, map}
 use Rattle.std.proofs.Common.{flat_map}
-use Prim.Native.Nat.{ℕ, ◌+◌, ◌*◌, ◌≤◌, ◌<◌}
+use Prim.Native.Nat.{ℕ, ◌+◌, ◌*◌, ◌<◌}
 use native.Mathlib.Omega.{arith}
 use lib.Dec.{T, ltb, ltb→lt}
 use lib.ListN.{length, get_or, take, set, length-set}
-use lib.Seq.{take-length, length-take-le}
+use lib.Seq.{take-length}
 use Rattle.std.proofs.lemmas.List.{take_all, take_more, take_more_set, map-append}
 use Rattle.table.specs.Limits.{max_double_links, max_ring}
 use Rattle.table.specs.Layout.{Table}
@@ -49,7 +49,7 @@ pub copied_words :
     flat_map (λ p. p) (take n ps) ≡ words_of ls
 copied_words ls ps k n c e f =
     let p : take n ps ≡ map pair_of ls =
-        rw (f, ← e) (c.pairs ∙ ap (map pair_of) (take_all k ls (omega (arith, e)))) in
+    rw (f, ← e) (c.pairs ∙ ap (map pair_of) (take_all k ls (omega (arith, e)))) in
     rw p (words_in_pairs ls)
 
 length_words : (ls : List DoubleLink) → length (words_of ls) ≡ 2 * length ls

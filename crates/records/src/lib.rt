@@ -6,13 +6,13 @@ ghost use Rattle.std.specs.Prelude.{◌≡◌};
 ghost use Rattle.table.specs.Replies.{reply};
 ghost use Rattle.kernel.specs.Calls.{ring_call_refusal, ring_call_leaves};
 ghost use Rattle.tape.specs.Steps.{cuts_ring};
-ghost use Rattle.journal_calls.specs.Calls.{state_of, perform_reply, journaled_of};
+ghost use Rattle.journal_calls.specs.Calls.{state_of, perform_reply};
 ghost use Rattle.records.specs.Records.{words_of};
 
 mod flatten;
 
 use flatten::flatten;
-use journal_calls::{Head, Journaled};
+use journal_calls::Head;
 use kernel::{Refusal, ring_cut};
 use table::limits::MAX_DOUBLE_LINKS;
 
@@ -36,17 +36,13 @@ pub fn ring_cut_records(table: &mut [u16], ring: &[DoubleLink]) -> Result<(), Re
 pub fn journal_ring_cut_records(
     table: &mut [u16],
     journal: &mut [u16],
-    head: Head,
+    head: &mut Head,
     ring: &[DoubleLink],
-) -> Journaled
-    ensures value { result ≡ journaled_of (perform_reply
-        (state_of table.old journal.old head) (cuts_ring (words_of ring.now))) }
-    ensures table { table.new ≡ (perform_reply
-        (state_of table.old journal.old head) (cuts_ring (words_of ring.now))
-        ).state.table }
-    ensures journal { journal.new ≡ (perform_reply
-        (state_of table.old journal.old head) (cuts_ring (words_of ring.now))
-        ).state.journal }
+) -> Result<(), Refusal>
+    ensures value { reply result ≡
+        (perform_reply (state_of table.old journal.old head.old) (cuts_ring (words_of ring.now))).number }
+    ensures state { state_of table.new journal.new head.new ≡
+        (perform_reply (state_of table.old journal.old head.old) (cuts_ring (words_of ring.now))).state }
 {
     let mut pairs = [[0; 2]; MAX_DOUBLE_LINKS];
     journal_calls::ring_cut(table, journal, head, flatten(ring, &mut pairs))
