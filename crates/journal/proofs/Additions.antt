@@ -1,5 +1,5 @@
 -- One change and one ring, made and written into the journal, or refused. Assumes nothing.
-use mathlib.Core.Path.{◌≡◌, refl, sym}
+use mathlib.Core.Path.{◌≡◌, refl, sym, ◌∙◌}
 use mathlib.Core.Bool.{true, ◌&&◌}
 use mathlib.Core.List.{List}
 use Prim.Native.Nat.{ℕ, ◌+◌, ◌-◌, ◌*◌, ◌/◌, ◌%◌, ◌≤◌, ◌<◌}
@@ -9,18 +9,17 @@ use lib.ListN.{length}
 use borrow.Author.Tests.{leb-true, le-leb, lt-leb}
 use Rattle.hypermap.proofs.Basics.Bools.{and_right}
 use Rattle.table.specs.Limits.{words_per_entry, max_word, max_capacity, max_ring, max_entries}
-use Rattle.table.specs.Refusals.{journal_full, unless}
+use Rattle.table.specs.Refusals.{journal_full, or_else, unless}
 use Rattle.table.specs.Layout.{Table, capacity}
-use Rattle.table.specs.Commands.{Command, puts, takes_out, joins, cuts, command_refusal}
-use Rattle.table.specs.Inner.{Accepts}
+use Rattle.table.specs.Commands.{Command, puts, takes_out, joins, cuts, command_refusal, command_on, leaves}
 use Rattle.table.proofs.Reading.{number_small}
-use Rattle.table.proofs.Stages.{fitting, refused_first, refused, accepted}
+use Rattle.table.proofs.Stages.{passed, fitting, refused_first, refused, accepted}
 use Rattle.table.proofs.Replying.{goes_on, fails, holds}
 use Rattle.table.proofs.Accepting.{put_passed, take_out_passed, join_passed, cut_passed}
 use Rattle.rings.specs.Rings.{is_list, ring_refusal}
 use Rattle.rings.proofs.Conditions.{accepted_list}
-use Rattle.tape.specs.Steps.{TapeCommand, reports, step_refusal}
-use Rattle.journal.specs.Entries.{Journal, entry_of, with_entries}
+use Rattle.tape.specs.Steps.{TapeCommand, changes, reports, step_refusal}
+use Rattle.journal.specs.Entries.{Journal, entry_of, with_entry, with_entries}
 use Rattle.journal.specs.Heads.{has_room, room_refusal}
 use Rattle.journal.specs.Journaling.{Recorded, changes_in, journaled_refusal, journaled_on}
 use Rattle.journal.specs.Inner.{recorded, Journals, IsRoom, WritableChange, WithinJournal, RoomForCuts}
@@ -88,17 +87,40 @@ pub room_given :
 unfolding room_refusal
 room_given j used n e = room_known j (used + n) (fitting _ journal_full (omega arith) (sym e))
 
--- ONE CHANGE that is accepted, with room for its entry
-module _
-    (w : Table) (j : Journal) (used : ℕ) (h : WithinJournal w j used) (c : Command) (e : 0 ≡ command_refusal w c) where
-  pub change_accepts : Accepts w c
-  change_accepts = record { within = h.table; accepted = sym e }
+-- ONE CHANGE, judged and made at once: n is its reply, which is that of the room r where the change is accepted
+module _ (w : Table) (j : Journal) (used : ℕ) (c : Command) (r n : ℕ) (room : r ≡ room_refusal j used 1)
+    (e : n ≡ or_else (command_refusal w c) r) where
+  judged : n ≡ journaled_refusal (recorded w j used) (changes c)
+  unfolding journaled_refusal
+  judged = e ∙ ap (or_else (command_refusal w c)) room
 
-  pub change_writable : 0 ≡ room_refusal j used 1 → WritableChange j used c
-  change_writable q =
-      let i = operands_small w h.table.room c (sym e) in
-      let r = (room_given j used 1 q).0 in
-      record { words = omega arith; first = i.0; second = i.1 }
+  module _ (v : Table) (q : v ≡ leaves (or_else (command_refusal w c) r) (command_on w c) w) where
+    pub change_refused : (n ≡ 0 → ⊥) → Journals (recorded w j used) (changes c) n (recorded v j used)
+    change_refused d =
+        let stays = q ∙ sym (refused _ n _ _ e d) in
+        rw stays (judged, refused _ n _ _ judged d)
+
+    module _ (z : n ≡ 0) where
+      stages : (command_refusal w c ≡ 0) × (r ≡ 0)
+      stages = passed (command_refusal w c) r (sym e ∙ z)
+
+      pub change_room : (words_per_entry * (used + 1) ≤ length j) × (used + 1 ≤ max_entries)
+      change_room = room_given j used 1 (sym stages.1 ∙ room)
+
+      pub change_writable : WithinJournal w j used → WritableChange j used c
+      change_writable h =
+          let i = operands_small w h.table.room c stages.0 in
+          let r = change_room.0 in
+          record { words = omega arith; first = i.0; second = i.1 }
+
+      pub change_made :
+          (l : Journal) → l ≡ with_entry j used (entry_of c) →
+          Journals (recorded w j used) (changes c) 0 (recorded v l (used + 1))
+      unfolding with_entries
+      change_made l p =
+          let made = q ∙ sym (accepted _ n _ _ (command_on w c) e z refl) in
+          let f = sym z ∙ judged in
+          (f, accepted _ 0 _ _ _ f refl (rw (made, p) refl))
 
 -- A RING
 -- an accepted list is short

@@ -38,9 +38,8 @@ pub fn add_change(
     ensures { Journals (recorded table.old journal.old used.old) (changes (command_for change))
         (reply result) (recorded table.new journal.new used.new) }
 {
-    table_changes::judge(table, change)?;
-    judge_room(journal, *used, 1)?;
-    table_changes::write(table, change);
+    let room = judge_room(journal, *used, 1);
+    table_changes::perform_with(table, change, room)?;
     entries::write_change(journal, *used, change);
     *used += 1;
     Ok(())

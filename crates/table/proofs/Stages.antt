@@ -29,6 +29,11 @@ pub refused_second : (n m k r : ℕ) → k ≡ n → k ≡ 0 → r ≡ m → r �
 unfolding or_else
 refused_second n m k r e z q = rw (eq-eqb n 0 (sym e ∙ z)) q
 
+-- one stage by itself
+pub alone : (n : ℕ) → or_else n 0 ≡ n
+unfolding or_else
+alone n = by_cases (eqb n 0) (λ t. rw t (sym (eqb-true n 0 t))) (λ t. rw t)
+
 -- code asks r for a condition t, and stops there or goes on
 pub stage_stop : (r t : Bool) (n m : ℕ) → 0 < n → r ≡ t → r ≡ false → n ≡ or_else (unless t n) m
 unfolding or_else unless

@@ -3,9 +3,10 @@
 ghost use Rattle.std.specs.Prelude.{◌≡◌, [], ◌∷◌};
 ghost use Rattle.table.specs.Limits.{edge_next};
 ghost use Rattle.table.specs.Commands.{is_alone, is_together, presence_refusal, command_refusal, command_on};
-ghost use Rattle.table.specs.Commands.{puts, takes_out, joins, cuts, with_all, swapped, command_leaves};
+ghost use Rattle.table.specs.Commands.{puts, takes_out, joins, cuts, with_all, swapped, leaves, command_leaves};
 ghost use Rattle.table.specs.Inner.{InTable, WithinCapacity, WithinCapacityAtBoth, Accepts, Storable};
 ghost use Rattle.table.specs.Inner.{dimension_of, command_for};
+ghost use Rattle.table.specs.Refusals.{or_else};
 ghost use Rattle.table.specs.Replies.{reply};
 
 use crate::limits::{EDGE_NEXT, VERTEX_NEXT};
@@ -153,8 +154,50 @@ pub fn write(table: &mut [u16], change: Change)
     }
 }
 
-// BOTH IN TURN, for a run of many changes. It goes by arms, in which the dimension is known, so that the compiler judges
-// the kind of a change once; a call for a single change asks `judge`, and then `write`.
+// BOTH IN TURN, for a run of many changes. It goes by arms, in which the dimension is known, and into the loop of the
+// run; so what a caller has to say after the change's own refusals comes along. A call for a single change asks `judge`,
+// and then `write`.
+
+#[inline(always)]
+pub fn perform_with(
+    table: &mut [u16],
+    change: Change,
+    last: Result<(), Refusal>,
+) -> Result<(), Refusal>
+    requires { WithinCapacity table.old }
+    ensures value { reply result ≡ or_else (command_refusal table.old (command_for change)) (reply last) }
+    ensures table { table.new ≡ leaves
+        (or_else (command_refusal table.old (command_for change)) (reply last))
+        (command_on table.old (command_for change)) table.old }
+{
+    match change {
+        Change::Put(x) => {
+            judge_put(table, x).and(last)?;
+            write_all(table, x, x);
+        }
+        Change::TakeOut(x) => {
+            judge_take_out(table, x).and(last)?;
+            write_all(table, x, 0);
+        }
+        Change::EdgeJoin(a, b) => {
+            judge_join(table, Dimension::Edge, a, b).and(last)?;
+            write_swap(table, Dimension::Edge, a, b);
+        }
+        Change::EdgeCut(a, b) => {
+            judge_cut(table, Dimension::Edge, a, b).and(last)?;
+            write_swap(table, Dimension::Edge, a, b);
+        }
+        Change::VertexJoin(a, b) => {
+            judge_join(table, Dimension::Vertex, a, b).and(last)?;
+            write_swap(table, Dimension::Vertex, a, b);
+        }
+        Change::VertexCut(a, b) => {
+            judge_cut(table, Dimension::Vertex, a, b).and(last)?;
+            write_swap(table, Dimension::Vertex, a, b);
+        }
+    }
+    Ok(())
+}
 
 #[inline(always)]
 pub fn perform(table: &mut [u16], change: Change) -> Result<(), Refusal>
@@ -162,31 +205,5 @@ pub fn perform(table: &mut [u16], change: Change) -> Result<(), Refusal>
     ensures value { reply result ≡ command_refusal table.old (command_for change) }
     ensures table { table.new ≡ command_leaves table.old (command_for change) }
 {
-    match change {
-        Change::Put(x) => {
-            judge_put(table, x)?;
-            write_all(table, x, x);
-        }
-        Change::TakeOut(x) => {
-            judge_take_out(table, x)?;
-            write_all(table, x, 0);
-        }
-        Change::EdgeJoin(a, b) => {
-            judge_join(table, Dimension::Edge, a, b)?;
-            write_swap(table, Dimension::Edge, a, b);
-        }
-        Change::EdgeCut(a, b) => {
-            judge_cut(table, Dimension::Edge, a, b)?;
-            write_swap(table, Dimension::Edge, a, b);
-        }
-        Change::VertexJoin(a, b) => {
-            judge_join(table, Dimension::Vertex, a, b)?;
-            write_swap(table, Dimension::Vertex, a, b);
-        }
-        Change::VertexCut(a, b) => {
-            judge_cut(table, Dimension::Vertex, a, b)?;
-            write_swap(table, Dimension::Vertex, a, b);
-        }
-    }
-    Ok(())
+    perform_with(table, change, Ok(()))
 }
