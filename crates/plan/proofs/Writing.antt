@@ -14,7 +14,8 @@ use Rattle.plan.proofs.Lines.{lines_none}
 
 -- THE STATE: what is written, what the buffer holds and the lines of what is left are the lines of the run. a is what a
 -- writer held at first, b what it holds
-pub record Writing (w₀ : Table) (tape : List ℕ) (w : Table) (rest buffer : List ℕ) (a b : Option (List ℕ)) : Type 0 where
+pub record Writing (w₀ : Table) (tape : List ℕ) (w : Table) (rest buffer : List ℕ) (a b : Option (List ℕ)) :
+    Type 0 where
   pub within : WithinCapacity w
   pub written : List ℕ
   pub appends : Appends a b written

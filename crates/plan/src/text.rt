@@ -13,13 +13,18 @@ use std::fmt::{self, Write};
 use table::refusals::Refusal;
 use tape::Instruction;
 
-// The numbers in document 01's order. Never inlined: counted in the loop over a tape's commands, they take a quarter
-// longer.
+// Never inlined: in the loop over a tape's commands the count takes a quarter longer.
 #[inline(never)]
-fn write_report<const N: usize>(lines: &mut ArrayString<N>, table: &[u16]) -> fmt::Result
+fn counts(table: &[u16]) -> Counts
     requires { WithinCapacity table.now }
-    ensures { OnOk result (lines.new.bytes ≡ lines.old.bytes ++
-        report_line (counts_of (hypermap_of table.now))) }
+    ensures { result ≡ counts_of (hypermap_of table.now) }
+{
+    count::counts(table)
+}
+
+// The numbers in document 01's order.
+fn write_report<const N: usize>(lines: &mut ArrayString<N>, counts: Counts) -> fmt::Result
+    ensures { OnOk result (lines.new.bytes ≡ lines.old.bytes ++ report_line counts) }
 {
     let Counts {
         darts,
@@ -30,7 +35,7 @@ fn write_report<const N: usize>(lines: &mut ArrayString<N>, table: &[u16]) -> fm
         characteristic,
         genus,
         lifts,
-    } = count::counts(table);
+    } = counts;
     writeln!(
         lines,
         "{darts} {edges} {vertices} {faces} {components} {characteristic} {genus} {lifts}"
@@ -48,7 +53,7 @@ pub fn write_accepted<const N: usize>(
         instruction_line table.now instruction) }
 {
     match instruction {
-        Instruction::Report => write_report(lines, table),
+        Instruction::Report => write_report(lines, counts(table)),
         Instruction::Change(_) | Instruction::RingCut(_) => writeln!(lines, "ok"),
     }
 }

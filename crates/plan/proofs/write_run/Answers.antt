@@ -8,9 +8,11 @@ use Rattle.plan.proofs.write_run.Goals as goal
 -- the buffer is nearly full
 pub loop-rest-preserved-then-len-gt-FULL : goal.loop-rest-preserved-then-len-gt-FULL
 loop-rest-preserved-then-len-gt-FULL g c =
+    let k =
+    rw (c.as_bytes-then-len-gt-FULL.ensures.value, c.deref-then-len-gt-FULL.ensures.0) at
+    c.in_ok-write_all.ensures.bytes in
     rw (part_to_end, c.clear.ensures)
-    (writing_out
-    (writing_on c.loop-rest.invariant _ _ _ _ c.in-Ok.ensures c.in-Ok-write_accepted.ensures) _ (rw (c.as_bytes-then-len-gt-FULL.ensures.value, c.deref-then-len-gt-FULL.ensures.0) at c.in_ok-write_all.ensures.bytes))
+    (writing_out (writing_on c.loop-rest.invariant _ _ _ _ c.in-Ok.ensures c.in-Ok-write_accepted.ensures) _ k)
 
 -- the tape ends
 pub returns-clause-lines : goal.returns-clause-lines

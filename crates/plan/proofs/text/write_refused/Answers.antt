@@ -6,4 +6,6 @@ use Rattle.plan.proofs.text.write_refused.Goals as goal
 
 pub returns : goal.returns
 unfolding refused_line
-returns g c = rw (← c.from.ensures, decimal_formatted c.from.result (omega arith)) (appended _ _ _ _ c.writeln.ensures.writes)
+returns g c =
+    rw (← c.from.ensures, decimal_formatted c.from.result (omega arith))
+    (appended _ _ _ _ c.writeln.ensures.writes)

@@ -15,9 +15,8 @@ regroup s t a b c d e f g h = simp append_assoc
 pub returns : goal.returns
 unfolding report_line
 returns g c =
-    let n = c.counts-darts.result in
+    let n = c.args.counts in
     rw (
-      ← c.counts-darts.ensures,
       decimal_formatted n.darts (omega arith),
       decimal_formatted n.edges (omega arith),
       decimal_formatted n.vertices (omega arith),
