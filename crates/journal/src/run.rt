@@ -15,6 +15,7 @@ use table::refusals::Refusal;
 use tape::{Instruction, Stopped, decode};
 
 // A ring of n double-links, whose darts stand after the count on the tape.
+#[inline(never)]
 fn add_tape_ring(
     table: &mut [u16],
     journal: &mut [u16],
@@ -73,6 +74,7 @@ fn add_first(
 
 // Command by command, each read whole from what the one before it left of the tape. Answers how many were accepted: all,
 // or those before the one that stopped it.
+#[inline(never)]
 pub fn run_tape(
     table: &mut [u16],
     journal: &mut [u16],

@@ -2,8 +2,8 @@
 ghost use Rattle.std.specs.Prelude.{◌≡◌, ◌+◌, ◌*◌, ◌-◌, ◌≤◌, length};
 ghost use Rattle.table.specs.Limits.{max_tape};
 ghost use Rattle.table.specs.Inner.{command_for};
-ghost use Rattle.tape.specs.Steps.{changes};
-ghost use Rattle.tape.specs.Tapes.{contents_of};
+ghost use Rattle.tape.specs.Steps.{changes, reports, cuts_ring};
+ghost use Rattle.tape.specs.Tapes.{numbers_from, contents_of};
 ghost use Rattle.tape.specs.Inner.{meaning};
 ghost use Rattle.needs.specs.Amounts.{needed_by};
 ghost use Rattle.needs.specs.Replies.{needs_in};
@@ -58,7 +58,24 @@ impl Tally {
         }
     }
 
+    fn add_report(self) -> Tally
+        requires { Countable self }
+        ensures { result ≡ added self reports }
+    {
+        self.one_more(0, 0)
+    }
+
     // A ring of n double-links makes a change for each.
+    #[cold]
+    fn add_ring(self, tape: &[u8], n: u8) -> Tally
+        requires { Countable self }
+        ensures value { result ≡ added self (cuts_ring (numbers_from (2 * n) 2 tape.now)) }
+        ensures few { result.changes ≤ self.changes + 255 }
+    {
+        let greatest = named::greatest_number(tape, 2 * usize::from(n));
+        self.one_more(greatest.into(), n.into())
+    }
+
     fn add(self, tape: &[u8], instruction: Instruction) -> Tally
         requires { Countable self }
         ensures value { result ≡ added self (meaning tape.now instruction) }
@@ -66,11 +83,8 @@ impl Tally {
     {
         match instruction {
             Instruction::Change(change) => self.add_change(change),
-            Instruction::Report => self.one_more(0, 0),
-            Instruction::RingCut(n) => {
-                let greatest = named::greatest_number(tape, 2 * usize::from(n));
-                self.one_more(greatest.into(), n.into())
-            }
+            Instruction::Report => self.add_report(),
+            Instruction::RingCut(n) => self.add_ring(tape, n),
         }
     }
 }

@@ -15,6 +15,7 @@ use table::limits::MAX_TAPE_RING;
 use table::refusals::Refusal;
 
 // A ring of n double-links, whose darts stand after the count on the tape.
+#[inline(never)]
 fn cut_tape_ring(table: &mut [u16], tape: &[u8], n: u8) -> Result<(), Refusal>
     requires { WithinCapacity table.old }
     ensures value { reply result ≡ ring_refusal table.old (numbers_from (2 * n) 2 tape.now) }
