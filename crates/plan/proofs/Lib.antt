@@ -1,3 +1,4 @@
+pub mod Appending
 pub mod Numerals
 pub mod Lines
 pub mod Taking

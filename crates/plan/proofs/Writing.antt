@@ -1,8 +1,7 @@
 -- The lines of a run, gathered in a buffer that is written now and then. Assumes nothing.
 use Rattle.std.proofs.Common.{◌≡◌, List, [], ◌++◌, ℕ, length, drop, Option, None, Some}
-use Rattle.std.proofs.Common.{Result, Ok, Err, refl, sym, ap, ◌∙◌, append_assoc, append-nil}
+use Rattle.std.proofs.Common.{refl, sym, ap, ◌∙◌, append_assoc, append-nil}
 use Rattle.std.specs.Io.KnownBytes.{Appends}
-use Rattle.std.specs.Result.{OnOk}
 use Rattle.table.specs.Layout.{Table}
 use Rattle.table.specs.Inner.{WithinCapacity}
 use Rattle.tape.specs.Steps.{step_rule}
@@ -15,7 +14,8 @@ use Rattle.plan.proofs.Lines.{lines_none}
 
 -- THE STATE: what is written, what the buffer holds and the lines of what is left are the lines of the run. a is what a
 -- writer held at first, b what it holds
-pub record Writing (w₀ : Table) (tape : List ℕ) (w : Table) (rest buffer : List ℕ) (a b : Option (List ℕ)) : Type 0 where
+pub record Writing (w₀ : Table) (tape : List ℕ) (w : Table) (rest buffer : List ℕ) (a b : Option (List ℕ)) :
+    Type 0 where
   pub within : WithinCapacity w
   pub written : List ℕ
   pub appends : Appends a b written
@@ -32,11 +32,6 @@ appends_then None b c bs cs p q = tt
 appends_then (Some x) None c bs cs p q = absurd p
 appends_then (Some x) (Some y) None bs cs p q = absurd q
 appends_then (Some x) (Some y) (Some z) bs cs p q = q ∙ ap (λ l. l ++ cs) p ∙ append_assoc x bs cs
-
--- what holds where a call succeeds
-pub on_ok : {T E : Type 0} {P Q : Type 0} (r : Result T E) → OnOk r P → (P → Q) → OnOk r Q
-on_ok (Ok x) p f = f p
-on_ok (Err e) p f = tt
 
 pub writing_first :
     {w : Table} {tape : List ℕ} (a : Option (List ℕ)) → WithinCapacity w → Writing w tape w tape [] a a

@@ -12,8 +12,8 @@ ghost use Rattle.tape.specs.Runs.{run_of};
 ghost use Rattle.plan.specs.Lines.{lines_of};
 ghost use Rattle.plan.specs.Inner.{Accepts, Refuses};
 
-use arrayvec::ArrayVec;
-use std::io::{self, Read, Write};
+use arrayvec::ArrayString;
+use std::io::{self, ErrorKind, Read, Write};
 use table::limits::{MAX_TAPE, MAX_WORDS};
 use table::refusals::Refusal;
 use tape::{Instruction, decode, step};
@@ -42,6 +42,11 @@ fn take_command(table: &mut [u16], tape: &[u8]) -> Result<(Instruction, usize), 
     Ok((instruction, size))
 }
 
+// A line that does not fit the buffer: no line is that long.
+fn no_room() -> io::Error {
+    ErrorKind::StorageFull.into()
+}
+
 // A line for each command, up to the first that is refused. Lines gather in a buffer of fixed memory, which is written
 // whenever it is nearly full, and at the end.
 fn write_run<W: Write>(lines: &mut W, table: &mut [u16], tape: &[u8]) -> io::Result<()>
@@ -50,25 +55,29 @@ fn write_run<W: Write>(lines: &mut W, table: &mut [u16], tape: &[u8]) -> io::Res
         (lines_of table.old tape.now)) }
     ensures table { OnOk result (table.new ≡ (run_of table.old tape.now).state) }
 {
-    let mut buffer = ArrayVec::<u8, BUFFER_BYTES>::new();
+    let mut buffer = ArrayString::<BUFFER_BYTES>::new();
     let mut rest = tape;
     while !rest.is_empty() {
         match take_command(table, rest) {
             Ok((instruction, size)) => {
-                text::write_accepted(&mut buffer, table, instruction)?;
+                let Ok(()) = text::write_accepted(&mut buffer, table, instruction) else {
+                    return Err(no_room());
+                };
                 rest = &rest[size..];
             }
             Err(refusal) => {
-                text::write_refused(&mut buffer, refusal)?;
-                return lines.write_all(&buffer);
+                let Ok(()) = text::write_refused(&mut buffer, refusal) else {
+                    return Err(no_room());
+                };
+                return lines.write_all(buffer.as_bytes());
             }
         }
         if FULL < buffer.len() {
-            lines.write_all(&buffer)?;
+            lines.write_all(buffer.as_bytes())?;
             buffer.clear();
         }
     }
-    lines.write_all(&buffer)
+    lines.write_all(buffer.as_bytes())
 }
 
 // Reads until the buffer is full or the input ends, and answers how many bytes came.
@@ -92,7 +101,11 @@ fn main(rt: HostRuntime) -> io::Result<()> {
     let n = read_full(&mut rt.stdin(), &mut tape)?;
     let mut lines = io::writer(&rt);
     if MAX_TAPE < n {
-        return text::write_refused(&mut lines, Refusal::WrongSize);
+        let mut buffer = ArrayString::<BUFFER_BYTES>::new();
+        let Ok(()) = text::write_refused(&mut buffer, Refusal::WrongSize) else {
+            return Err(no_room());
+        };
+        return lines.write_all(buffer.as_bytes());
     }
     let mut table = [0u16; MAX_WORDS];
     write_run(&mut lines, &mut table, &tape[..n])

@@ -4,7 +4,7 @@ use Rattle.plan.proofs.write_run.Given as goal
 
 abbrev pub invariant-loop-rest : goal.invariant-loop-rest
 invariant-loop-rest g l =
-    Writing l.fn.table l.tape l.table l.rest l.buffer.items (g.W.Write.contents l.fn.lines) (g.W.Write.contents l.lines)
+    Writing l.fn.table l.tape l.table l.rest l.buffer.bytes (g.W.Write.contents l.fn.lines) (g.W.Write.contents l.lines)
 
 abbrev pub decreases-loop-rest : goal.decreases-loop-rest
 decreases-loop-rest g l = length l.rest

@@ -1,6 +1,7 @@
 use Rattle.std.proofs.Common.{◌≡◌, List, [], ◌∷◌, ◌++◌, ℕ, rules, arith, append_assoc}
 use Rattle.std.specs.Fmt.{decimal, signed_decimal}
 use Rattle.plan.specs.Lines.{report_line}
+use Rattle.plan.proofs.Appending.{appended}
 use Rattle.plan.proofs.Numerals.{decimal_formatted, signed_formatted}
 use Rattle.plan.proofs.text.write_report.Goals as goal
 
@@ -14,9 +15,8 @@ regroup s t a b c d e f g h = simp append_assoc
 pub returns : goal.returns
 unfolding report_line
 returns g c =
-    let n = c.counts-darts.result in
+    let n = c.args.counts in
     rw (
-      ← c.counts-darts.ensures,
       decimal_formatted n.darts (omega arith),
       decimal_formatted n.edges (omega arith),
       decimal_formatted n.vertices (omega arith),
@@ -28,4 +28,4 @@ returns g c =
       regroup (32 ∷ []) (10 ∷ []) (decimal n.darts) (decimal n.edges) (decimal n.vertices) (decimal n.faces)
           (decimal n.components) (signed_decimal _) (decimal n.genus) (decimal n.lifts),
     )
-    c.writeln.ensures.bytes
+    (appended _ _ _ _ c.writeln.ensures.writes)
