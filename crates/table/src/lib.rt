@@ -1,5 +1,5 @@
-// A lent table: its words, whether it holds a hypermap, walks, and changes. Inner functions: they may require a table
-// that holds a hypermap and is within the capacity.
+// A lent table: its words, whether it holds a hypermap, walks, changes, and refusals. Inner functions: they may require
+// a table that holds a hypermap and is within the capacity.
 
 #![tactic(auto)]
 
