@@ -62,7 +62,8 @@ module _ (s : Recorded) (c : TapeCommand) where
     both_accept e t q = let f = goes_on own room 0 z e in (f, accepted _ 0 _ _ _ f refl q)
 
 -- a report adds nothing
-pub report_adds : (w : Table) (j : Journal) (n : ℕ) → has_room j n ≡ true → Journals (recorded w j n) reports 0 (recorded w j n)
+pub report_adds :
+    (w : Table) (j : Journal) (n : ℕ) → has_room j n ≡ true → Journals (recorded w j n) reports 0 (recorded w j n)
 unfolding room_refusal unless with_entries
 report_adds w j n t =
     let z : n + 0 ≡ n = omega arith in both_accept _ _ refl (rw (z, t)) _ (rw z)

@@ -26,7 +26,8 @@ pub cuts_length : (ws : List ℕ) → length (cuts_of (links_of ws)) ≡ length 
 cuts_length ws = cuts_long (links_of ws) ∙ links_length ws
 
 -- the links ls are left to be written, n entries are used, and the journal is l
-pub record CutsWritten (j : Journal) (used : ℕ) (ws : List ℕ) (ls : List DoubleLink) (l : Journal) (n : ℕ) : Type 0 where
+pub record CutsWritten (j : Journal) (used : ℕ) (ws : List ℕ) (ls : List DoubleLink) (l : Journal)
+    (n : ℕ) : Type 0 where
   pub count : n + length ls ≡ used + length ws / 2
   pub size : length l ≡ length j
   pub rest : with_entries j used (cuts_of (links_of ws)) ≡ with_entries l n (cuts_of ls)
@@ -35,7 +36,8 @@ module _ (j : Journal) (used : ℕ) (ws : List ℕ) where
   pub none_written : CutsWritten j used ws (links_of ws) j used
   none_written = record { count = ap (λ k. used + k) (links_length ws); size = refl; rest = refl }
 
-  pub all_written : (l : Journal) (n : ℕ) → CutsWritten j used ws [] l n → l ≡ with_entries j used (cuts_of (links_of ws))
+  pub all_written :
+      (l : Journal) (n : ℕ) → CutsWritten j used ws [] l n → l ≡ with_entries j used (cuts_of (links_of ws))
   unfolding with_entries cuts_of
   all_written l n i = sym i.rest
 

@@ -59,7 +59,8 @@ module _
   unfolding undo_refusal unless leaves
   change_undoes e v q = rw (t, ← p, ← e) (refl, rw (← e) at q)
 
-  pub change_stays : (n : ℕ) → n ≡ command_refusal w o → (n ≡ 0 → ⊥) → (v : Table) → v ≡ command_leaves w o → Undoes w y undo_unfit v
+  pub change_stays :
+      (n : ℕ) → n ≡ command_refusal w o → (n ≡ 0 → ⊥) → (v : Table) → v ≡ command_leaves w o → Undoes w y undo_unfit v
   unfolding undo_refusal unless leaves
   change_stays n e d v q =
       let f = ne_eqb (command_refusal w o) 0 (λ z. d (e ∙ z)) in rw (t, ← p, f) (refl, rw f at q)

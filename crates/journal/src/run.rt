@@ -72,8 +72,8 @@ fn add_first(
     Ok(size)
 }
 
-// Command by command, each read whole from what the one before it left of the tape. Answers how many were accepted: all,
-// or those before the one that stopped it.
+// Command by command, each read whole from what the one before it left of the tape. Answers how many were accepted:
+// all, or those before the one that stopped it.
 #[inline(never)]
 pub fn run_tape(
     table: &mut [u16],

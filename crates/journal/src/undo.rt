@@ -1,7 +1,5 @@
 // Going back: entry by entry from the latest, each undone by its opposite command.
-ghost use Rattle.std.specs.Prelude.{◌≡◌, ◌+◌, ◌*◌, ◌-◌, ◌≤◌, length};
-ghost use Rattle.table.specs.Limits.{words_per_entry};
-ghost use Rattle.table.specs.Inner.{WithinCapacity};
+ghost use Rattle.std.specs.Prelude.{◌≡◌, ◌-◌};
 ghost use Rattle.table.specs.Runs.{rule_leaves};
 ghost use Rattle.table.specs.Replies.{reply};
 ghost use Rattle.tape.specs.Runs.{told_of};
@@ -30,8 +28,8 @@ fn undo_entry(table: &mut [u16], journal: &[u16], n: u32) -> Result<(), Refusal>
     }
 }
 
-// Undoes entries from the last of `used` down to number `to`. Answers how many were undone: all, or those before the one
-// that stopped it.
+// Undoes entries from the last of `used` down to number `to`. Answers how many were undone: all, or those before the
+// one that stopped it.
 pub fn undo_back(table: &mut [u16], journal: &[u16], used: u32, to: u32) -> Result<u32, Stopped>
     requires { Undoable table.old journal.now used to }
     ensures value { run_reply result ≡ told_of (undoing table.old journal.now to (used - to)) }

@@ -35,7 +35,8 @@ StoppedBy r d = IsErrAnd r (λ y. y ≡ d)
 -- the table's refusal comes first, whatever comes after it
 judged_first :
     (w v : Table) (n : ℕ) {A : Type 0} (r : Result A Refusal) (d : Refusal) → StoppedBy r d →
-    number d ≡ table_refusal w → (reply r ≡ or_else (table_refusal w) n) × (w ≡ leaves (or_else (table_refusal w) n) v w)
+    number d ≡ table_refusal w → (reply r ≡ or_else (table_refusal w) n) × (w ≡ leaves (or_else
+    (table_refusal w) n) v w)
 judged_first w v n r d q e = (
   stops r d (table_refusal w) n q e,
   refused _ (number d) v w (refused_first (table_refusal w) n (number d) e (number_positive d)) (number_positive d),

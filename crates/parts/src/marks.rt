@@ -1,6 +1,6 @@
 // Marks: a word for each number of a table, marks[x - 1] for x. A pass over the numbers marks each part with its
 // smallest dart, which is the first dart of it that the pass meets.
-ghost use Rattle.std.specs.Prelude.{◌≡◌, ◌-◌, length, set, replicate};
+ghost use Rattle.std.specs.Prelude.{◌≡◌, ◌-◌, set};
 ghost use Rattle.hypermap.specs.Hypermap.{orbit_of, orbits};
 ghost use Rattle.table.specs.Layout.{hypermap_of};
 ghost use Rattle.table.specs.Inner.{InTable, kind_of};
@@ -24,12 +24,6 @@ pub fn mark_dart(marks: &mut [u16], x: u16, value: u16)
     ensures { marks.new ≡ set marks.old (x - 1) value }
 {
     marks[usize::from(x) - 1] = value;
-}
-
-pub fn clear(marks: &mut [u16])
-    ensures { marks.new ≡ replicate (length marks.old) 0 }
-{
-    marks.fill(0);
 }
 
 // Whether x is a dart without a mark: in a pass over the numbers, the smallest dart of its part. Where there is a mark,

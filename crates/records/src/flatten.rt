@@ -1,5 +1,5 @@
-// The words of a ring that is lent as records. Of a ring that is too long no word is copied: `ring_cut` answers an empty
-// list as it answers one that is too long.
+// The words of a ring that is lent as records. Of a ring that is too long no word is copied: `ring_cut` answers an
+// empty list as it answers one that is too long.
 ghost use Rattle.std.specs.Prelude.{◌≡◌, ◌≤◌, length, take};
 ghost use Rattle.table.specs.Limits.{max_double_links};
 ghost use Rattle.records.specs.Records.{fitted, words_of};

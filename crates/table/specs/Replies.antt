@@ -1,7 +1,9 @@
 -- The code's refusals, and what stands for them in the definitions: the published number of each, and 0 where a call is
 -- accepted. Assumes nothing: these are definitions.
 use Rattle.std.specs.Prelude.{ℕ, Result, Ok, Err}
-use Rattle.table.specs.Refusals.{wrong_size, bent_table, off_the_table, no_tab, tab_taken, tab_held, together, apart, same_tab, no_list, tie_twice, gap_twice, path_broken, short_room, unknown_command, torn_command, undo_unfit, journal_full, no_mark}
+use Rattle.table.specs.Refusals.{wrong_size, bent_table, off_the_table, no_tab, tab_taken, tab_held, together, apart}
+use Rattle.table.specs.Refusals.{same_tab, no_list, tie_twice, gap_twice, path_broken, short_room, unknown_command}
+use Rattle.table.specs.Refusals.{torn_command, undo_unfit, journal_full, no_mark}
 use Rattle.table.specs.declared.refusals.Refusal.{Refusal}
 use Rattle.table.specs.declared.refusals.Refusal.TheVariants as refusal
 

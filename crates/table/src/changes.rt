@@ -1,10 +1,10 @@
-// A change of a table: whether it is refused, the words that it writes, and both in turn. Document 01's refusals 1 and 2
-// are the caller's.
+// A change of a table: whether it is refused, the words that it writes, and both in turn. Document 01's refusals 1 and
+// 2 are the caller's.
 ghost use Rattle.std.specs.Prelude.{◌≡◌, [], ◌∷◌};
 ghost use Rattle.table.specs.Limits.{edge_next};
 ghost use Rattle.table.specs.Commands.{is_alone, is_together, presence_refusal, command_refusal, command_on};
 ghost use Rattle.table.specs.Commands.{puts, takes_out, joins, cuts, with_all, swapped, leaves, command_leaves};
-ghost use Rattle.table.specs.Inner.{InTable, WithinCapacity, WithinCapacityAtBoth, Accepts, Storable};
+ghost use Rattle.table.specs.Inner.{InTable, WithinCapacity, WithinCapacityAtBoth, Storable};
 ghost use Rattle.table.specs.Inner.{dimension_of, command_for};
 ghost use Rattle.table.specs.Refusals.{or_else};
 ghost use Rattle.table.specs.Replies.{reply};
@@ -108,21 +108,6 @@ pub fn judge_cut(table: &[u16], d: Dimension, a: u32, b: u32) -> Result<(), Refu
     Ok(())
 }
 
-#[inline(always)]
-pub fn judge(table: &[u16], change: Change) -> Result<(), Refusal>
-    requires { WithinCapacity table.now }
-    ensures { reply result ≡ command_refusal table.now (command_for change) }
-{
-    match change {
-        Change::Put(x) => judge_put(table, x),
-        Change::TakeOut(x) => judge_take_out(table, x),
-        Change::EdgeJoin(a, b) => judge_join(table, Dimension::Edge, a, b),
-        Change::EdgeCut(a, b) => judge_cut(table, Dimension::Edge, a, b),
-        Change::VertexJoin(a, b) => judge_join(table, Dimension::Vertex, a, b),
-        Change::VertexCut(a, b) => judge_cut(table, Dimension::Vertex, a, b),
-    }
-}
-
 // ITS WORDS, where it is not refused
 
 fn write_all(table: &mut [u16], x: u32, value: u32)
@@ -139,24 +124,8 @@ fn write_swap(table: &mut [u16], d: Dimension, a: u32, b: u32)
     store::swap(table, d, to_word(a), to_word(b));
 }
 
-#[inline(always)]
-pub fn write(table: &mut [u16], change: Change)
-    requires { Accepts table.old (command_for change) }
-    ensures { table.new ≡ command_on table.old (command_for change) }
-{
-    match change {
-        Change::Put(x) => write_all(table, x, x),
-        Change::TakeOut(x) => write_all(table, x, 0),
-        Change::EdgeJoin(a, b) => write_swap(table, Dimension::Edge, a, b),
-        Change::EdgeCut(a, b) => write_swap(table, Dimension::Edge, a, b),
-        Change::VertexJoin(a, b) => write_swap(table, Dimension::Vertex, a, b),
-        Change::VertexCut(a, b) => write_swap(table, Dimension::Vertex, a, b),
-    }
-}
-
-// BOTH IN TURN, for a run of many changes. It goes by arms, in which the dimension is known, and into the loop of the
-// run; so what a caller has to say after the change's own refusals comes along. A call for a single change asks `judge`,
-// and then `write`.
+// BOTH IN TURN. It goes by arms, in which the dimension is known, and into the loop of a run; so what a caller has to
+// say after the change's own refusals comes along.
 
 #[inline(always)]
 pub fn perform_with(

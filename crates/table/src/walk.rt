@@ -88,11 +88,11 @@ pub fn write_orbit(table: &[u16], orbit: Orbit, x: u16, out: &mut [u16])
     }
 }
 
-// How far b is from a round an orbit, None where b is not in it. One walk goes forward from a and one back from b, a step each in turn. After n
-// steps in all they are at one dart exactly if n steps lead from a to b, so their first meeting gives the distance. If
-// one of them comes home first, b is not in the orbit of a, which costs no more than the shorter orbit. The step back
-// goes first, since on a canonical tape the second dart of a join is alone. Both walks together make fewer steps than
-// twice the capacity.
+// How far b is from a round an orbit, None where b is not in it. One walk goes forward from a and one back from b, a
+// step each in turn. After n steps in all they are at one dart exactly if n steps lead from a to b, so their first
+// meeting gives the distance. If one of them comes home first, b is not in the orbit of a, which costs no more than the
+// shorter orbit. The step back goes first, since on a canonical tape the second dart of a join is alone. Both walks
+// together make fewer steps than twice the capacity.
 pub fn distance(table: &[u16], orbit: Orbit, a: u16, b: u16) -> Option<u16>
     requires { WithinCapacityAtBoth table.now a b }
     ensures { result ≡ distance_found table.now (kind_of orbit) a b }

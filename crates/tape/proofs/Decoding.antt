@@ -18,7 +18,7 @@ use Rattle.hypermap.proofs.Basics.Bools.{by_cases, and_left, and_right}
 use Rattle.table.specs.Refusals.{or_else, unless}
 use Rattle.tape.specs.Tapes.{operand_sizes, is_command, command_size, byte_of, size_of, read_refusal}
 use Rattle.table.specs.declared.refusals.Refusal.{Refusal}
-use Rattle.table.specs.declared.refusals.Refusal.TheVariants.{TornCommand, UnknownCommand}
+use Rattle.table.specs.declared.refusals.Refusal.TheVariants.{TornCommand}
 use Rattle.tape.specs.Tapes.{command_of, number_at, numbers_from}
 use Rattle.tape.specs.Opcodes.{byte_for}
 use Rattle.tape.specs.Inner.{meaning, Reads}
@@ -140,7 +140,8 @@ command_by bs opcode.Report e = rw e
 command_by bs opcode.RingCut e = rw e
 
 pub first_operand :
-    (bs : List ℕ) (n : ℕ) (xs : List ℕ) (x : ℕ) → xs ≡ numbers_from (suc n) 1 bs → x ≡ get_or xs 0 0 → x ≡ number_at bs 1
+    (bs : List ℕ) (n : ℕ) (xs : List ℕ) (x : ℕ) → xs ≡ numbers_from (suc n) 1 bs → x ≡ get_or xs 0 0 →
+    x ≡ number_at bs 1
 unfolding numbers_from
 first_operand bs n xs x e q = rw (q, e)
 
@@ -149,11 +150,6 @@ pub second_operand :
     x ≡ number_at bs 3
 unfolding numbers_from
 second_operand bs n xs x e q = rw (q, e)
-
-pub unknown_reads :
-    (bs : List ℕ) (r : Result (Instruction × ℕ) Refusal) (d : Refusal) → IsErrAnd r (λ y. y ≡ d) →
-    (d ≡ UnknownCommand) × (is_command (byte_of bs) ≡ false) → Reads bs r
-unknown_reads bs r d q t = let u = err_from_is_err_and r q in rw (u.1, u.2, t.0) (unknown_refusal bs t.1)
 
 -- NUMBERS one after the other
 pub numbers_length : (n i : ℕ) (bs : List ℕ) → length (numbers_from n i bs) ≡ n

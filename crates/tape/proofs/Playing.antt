@@ -78,12 +78,15 @@ module _ {S : Type 0} (r : Rule S TapeCommand) (s : S) (bs : List ℕ) (e : firs
     first_rest some = rw (part_to_end, z) (rest_shorter bs some)
 
 -- IN CODE: the decoder reads the instruction i, and then the command is carried out
-pub unread_number : {S : Type 0} (r : Rule S TapeCommand) (s : S) (bs : List ℕ) (k : ℕ) → k ≡ read_refusal bs → (k ≡ 0 → ⊥) → k ≡ first_refusal r s bs
+pub unread_number :
+    {S : Type 0} (r : Rule S TapeCommand) (s : S) (bs : List ℕ) (k : ℕ) → k ≡ read_refusal bs → (k ≡ 0 → ⊥) →
+    k ≡ first_refusal r s bs
 unfolding first_refusal
 unread_number r s bs k e d = refused_first (read_refusal bs) (r.refusal s (command_of bs)) k e d
 
 pub unread_state :
-    {S : Type 0} (r : Rule S TapeCommand) (s : S) (bs : List ℕ) (k : ℕ) → k ≡ read_refusal bs → (k ≡ 0 → ⊥) → s ≡ first_leaves r s bs
+    {S : Type 0} (r : Rule S TapeCommand) (s : S) (bs : List ℕ) (k : ℕ) → k ≡ read_refusal bs → (k ≡ 0 → ⊥) →
+    s ≡ first_leaves r s bs
 unfolding first_leaves
 unread_state r s bs k e d = refused _ k _ _ (unread_number r s bs k e d) d
 
@@ -119,7 +122,8 @@ module _
   playing_end e = ends 0 (run_none r s rest e)
 
   -- its first command has the refusal f and leaves t
-  module _ (some : 0 < length rest) (f : ℕ) (e : f ≡ first_refusal r s rest) (t : S) (l : t ≡ first_leaves r s rest) where
+  module _ (some : 0 < length rest) (f : ℕ) (e : f ≡ first_refusal r s rest) (t : S)
+      (l : t ≡ first_leaves r s rest) where
     pub playing_stopped : (f ≡ 0 → ⊥) → Ends (tape_run r s₀ tape) f k t
     unfolding first_refusal first_leaves leaves or_else
     playing_stopped x =

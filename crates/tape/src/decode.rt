@@ -75,7 +75,9 @@ fn ring(tape: &[u8]) -> Result<(Instruction, usize), Refusal>
 pub fn read(tape: &[u8]) -> Result<(Instruction, usize), Refusal>
     ensures { Reads tape.now result }
 {
-    let opcode = Opcode::try_from(byte_at(tape, 0))?;
+    let Ok(opcode) = Opcode::try_from(byte_at(tape, 0)) else {
+        return Err(Refusal::UnknownCommand);
+    };
     match opcode {
         Opcode::Put => {
             let [x] = operands::<1>(tape)?;

@@ -5,6 +5,9 @@ ghost use Rattle.tape.specs.Opcodes.{byte_for, IsOpcode};
 
 use table::refusals::Refusal;
 
+// Operand bytes by command byte. No command has the byte 0; a ring's entry is the one byte before its pairs.
+pub const OPERAND_BYTES: [u8; 9] = [0, 2, 2, 4, 4, 4, 4, 0, 1];
+
 #[derive(Clone, Copy, Debug, PartialEq, Eq)]
 pub enum Opcode {
     Put = 1,
@@ -46,16 +49,11 @@ impl TryFrom<u8> for Opcode {
 }
 
 impl Opcode {
-    #[tactic(auto, unfolding(crate::specs::Tapes::command_size, crate::specs::Tapes::operand_sizes))]
     // Its own byte and its operands'. Of a ring, the count of its double-links, without the pairs that follow it.
+    #[inline(always)]
     pub fn size(self) -> usize
         ensures { result ≡ command_size (byte_for self) }
     {
-        match self {
-            Opcode::Report => 1,
-            Opcode::RingCut => 2,
-            Opcode::Put | Opcode::TakeOut => 3,
-            Opcode::EdgeJoin | Opcode::EdgeCut | Opcode::VertexJoin | Opcode::VertexCut => 5,
-        }
+        1 + usize::from(OPERAND_BYTES[usize::from(u8::from(self))])
     }
 }

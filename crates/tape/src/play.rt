@@ -1,5 +1,5 @@
 // The player: command by command, each read whole from what the one before it left of the tape.
-ghost use Rattle.std.specs.Prelude.{◌≡◌, ◌<◌, IfOk, length};
+ghost use Rattle.std.specs.Prelude.{◌≡◌, ◌<◌, IfOk};
 ghost use Rattle.table.specs.Inner.{WithinCapacity};
 ghost use Rattle.table.specs.Replies.{reply};
 ghost use Rattle.tape.specs.Steps.{step_rule};

@@ -37,7 +37,10 @@ pub lays_bytes :
     Lays at bs o (put_mid at (at + length bs - at) o bs) (at + length bs)
 lays_bytes {at} {bs} {o} h =
     let k : at + length bs - at ≡ length bs = omega arith in
-    record { laid = rw (k, drop-drop) (sym (as_sets at bs o ∙ sets-eq bs o at h.room ∙ append_assoc _ bs _)); place = refl }
+    record {
+      laid = rw (k, drop-drop) (sym (as_sets at bs o ∙ sets-eq bs o at h.room ∙ append_assoc _ bs _));
+      place = refl;
+    }
 
 pub lays_then :
     {at m n : ℕ} {bs cs o p q : List ℕ} → Lays at bs o p m → Lays m cs p q n → Lays at (bs ++ cs) o q n

@@ -104,12 +104,13 @@ fn write_joins(table: &[u16], d: Dimension, marks: &[u16], out: &mut [u8], from:
 // THE TAPE
 
 // Its bytes: a put for each dart, and a join for each dart that is not the least of its orbit.
+#[tactic(auto, unfolding(tape::specs::Tapes::command_size, tape::specs::Tapes::operand_sizes))]
 fn tape_size(darts: u32, edges: u32, vertices: u32) -> u32
     requires { (darts ≤ max_capacity) × (edges ≤ darts) × (vertices ≤ darts) }
     ensures { result + 5 * (edges + vertices) ≡ 13 * darts }
 {
     let joins = (darts - edges) + (darts - vertices);
-    PUT_SIZE as u32 * darts + JOIN_SIZE as u32 * joins
+    Opcode::Put.size() as u32 * darts + Opcode::EdgeJoin.size() as u32 * joins
 }
 
 // With room for a mark of each dart in each dimension.

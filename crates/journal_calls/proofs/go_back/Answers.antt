@@ -22,4 +22,5 @@ pub returns : goal.returns
 returns c =
     went_back_to _ _ c.in_ok-judge_state.ensures _ c.in-Some.ensures _ _ c.undo_back-went.ensures.value
     c.undo_back-went.ensures.table _
-    (c.cut_back.ensures ∙ ap (λ n. cut_back (c.args.head.now.length - n) c.args.head.now) (ap (λ x. x.accepted) c.from.ensures))
+    (c.cut_back.ensures ∙ ap (λ n. cut_back (c.args.head.now.length - n) c.args.head.now) (ap
+    (λ x. x.accepted) c.from.ensures))

@@ -38,6 +38,7 @@ overflow_cast-result c =
 pub returns : goal.returns
 returns c =
     let n = marks_many _ _ c.capacity_of-n.ensures in
-    let h = list_written _ (component_marks c.args.table.now) c.args.out.now _ _ c.in_ok-judge_table.ensures (omega arith)
+    let h = list_written _ (component_marks c.args.table.now) c.args.out.now _ _ c.in_ok-judge_table.ensures
+    (omega arith)
     n (rw (c.mark_components.ensures.marks, ← n) refl) in
     record { value = h.0; out = h.1 }

@@ -13,5 +13,8 @@ cut_ring-requires c = table_within _ (sym c.in_ok-judge_table.ensures)
 
 pub returns : goal.returns
 returns c =
-    let h = ring_rest _ c.args.ring.now _ _ c.in_ok-judge_table.ensures (c.cut_ring.ensures.value, c.cut_ring.ensures.table) in
+    let h = ring_rest _ c.args.ring.now _ _ c.in_ok-judge_table.ensures (
+      c.cut_ring.ensures.value,
+      c.cut_ring.ensures.table,
+    ) in
     record { value = h.0; table = h.1 }

@@ -18,5 +18,6 @@ play_and_answer-requires c = record { short = tape_passed _ (sym c.in_ok-judge_t
 
 pub returns : goal.returns
 returns c =
-    let h = screen_given c.args.tape.now c.args.out.now _ c.in_ok-judge_tape.ensures (omega arith) c.play_and_answer.ensures in
+    let h = screen_given c.args.tape.now c.args.out.now _ c.in_ok-judge_tape.ensures
+    (omega arith) c.play_and_answer.ensures in
     record { value = h.0; out = h.1 }

@@ -4,7 +4,8 @@ use Rattle.table.proofs.Replying.{number_positive}
 use Rattle.journal.specs.Journaling.{journal_rule}
 use Rattle.tape.specs.Runs.{told_of}
 use Rattle.journal.proofs.Running.{roomy_journal_on}
-use Rattle.tape.proofs.Playing.{nothing_left, something_left, first_fits, first_rest, playing_end, playing_stopped, playing_on}
+use Rattle.tape.proofs.Playing.{nothing_left, something_left, first_fits, first_rest, playing_end, playing_stopped}
+use Rattle.tape.proofs.Playing.{playing_on}
 use Rattle.journal.proofs.run.run_tape.Goals as goal
 
 pub slice_bounds-rest-count : goal.slice_bounds-rest-count

@@ -18,9 +18,11 @@ returns-then-not-are_together c =
 pub returns-then-a-b : goal.returns-then-a-b
 returns-then-a-b c =
     goes_on _ _ _ c.in_ok-judge_darts.ensures
-    (stage_on _ _ _ _ _ c.are_together.ensures c.if-not-are_together.false (denied _ _ _ refl (eq-eqb _ _ c.if-a-b.true)))
+    (stage_on _ _ _ _ _ c.are_together.ensures c.if-not-are_together.false (denied _ _ _ refl
+    (eq-eqb _ _ c.if-a-b.true)))
 
 pub returns : goal.returns
 returns c =
     goes_on _ _ _ c.in_ok-judge_darts.ensures
-    (stage_on _ _ _ _ _ c.are_together.ensures c.if-not-are_together.false (free _ _ _ refl (ne_eqb _ _ c.if-a-b.false)))
+    (stage_on _ _ _ _ _ c.are_together.ensures c.if-not-are_together.false (free _ _ _ refl
+    (ne_eqb _ _ c.if-a-b.false)))

@@ -4,7 +4,8 @@ use Rattle.table.proofs.Replying.{number_positive}
 use Rattle.tape.specs.Steps.{step_rule}
 use Rattle.tape.specs.Runs.{told_of}
 use Rattle.tape.proofs.Running.{roomy_on}
-use Rattle.tape.proofs.Playing.{nothing_left, something_left, first_fits, first_rest, playing_end, playing_stopped, playing_on}
+use Rattle.tape.proofs.Playing.{nothing_left, something_left, first_fits, first_rest, playing_end, playing_stopped}
+use Rattle.tape.proofs.Playing.{playing_on}
 use Rattle.tape.proofs.play.play.Goals as goal
 
 pub slice_bounds-rest-count : goal.slice_bounds-rest-count
