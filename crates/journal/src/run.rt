@@ -28,9 +28,7 @@ fn add_tape_ring(
         (reply result) (recorded table.new journal.new used.new) }
 {
     let mut words = [0u16; MAX_TAPE_RING];
-    let ring = &mut words[..2 * usize::from(n)];
-    decode::read_numbers(tape, 2, ring);
-    adding::add_ring(table, journal, used, ring)
+    adding::add_ring(table, journal, used, decode::read_ring(tape, n, &mut words))
 }
 
 // One command of a tape. A report is accepted, changes nothing and has no entry.

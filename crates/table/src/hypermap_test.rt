@@ -13,7 +13,7 @@ fn is_half_linked(table: &[u16], d: Dimension, x: u16) -> bool
     ensures { result ≡ half_linked table.now (dimension_of d) x }
 {
     let next = words::word(table, x, words::next_word(d));
-    if words::is_number(table, words::to_number(next)) {
+    if words::is_number(table, u32::from(next)) {
         words::word(table, next, words::back_word(d)) == x
     } else {
         false
@@ -39,14 +39,10 @@ pub fn holds_hypermap(table: &[u16]) -> bool
     requires { capacity table.now < max_word }
     ensures { result ≡ holds_hypermap table.now }
 {
-    let mut x: u16 = 1;
-    let mut left = words::capacity_of(table);
-    while 0 < left {
+    for x in 1..words::numbers_end(table) {
         if !half_fits(table, x) {
             return false;
         }
-        x += 1;
-        left -= 1;
     }
     true
 }

@@ -11,18 +11,6 @@ use crate::limits::{EDGE_BACK, EDGE_NEXT, VERTEX_BACK, VERTEX_NEXT, WORDS_PER_DA
 
 // NUMBERS and words
 
-pub fn to_usize(x: u16) -> usize
-    ensures { result ≡ x }
-{
-    x as usize
-}
-
-pub fn to_number(x: u16) -> u32
-    ensures { result ≡ x }
-{
-    x as u32
-}
-
 pub fn to_word(x: u32) -> u16
     requires { x ≤ max_word }
     ensures { result ≡ x }
@@ -80,7 +68,7 @@ pub fn word(table: &[u16], x: u16, i: usize) -> u16
     requires { InTable table.now x i }
     ensures { result ≡ word_at table.now x i }
 {
-    let at = place_of(to_number(x), i);
+    let at = place_of(u32::from(x), i);
     table[at]
 }
 
@@ -88,7 +76,7 @@ pub fn set_word(table: &mut [u16], x: u16, i: usize, value: u16)
     requires { InTable table.old x i }
     ensures { table.new ≡ with_word x i value table.old }
 {
-    let at = place_of(to_number(x), i);
+    let at = place_of(u32::from(x), i);
     table[at] = value;
 }
 

@@ -8,7 +8,7 @@ use native.Mathlib.Numerals.{add-one}
 use native.Mathlib.Omega.{arith}
 use lib.Dec.{leb}
 use lib.ListN.{length, get_or, take, drop, set, length-set}
-use lib.Seq.{take_all, take_at, drop-length, paste-suc}
+use lib.Seq.{take_all, drop-length, paste-suc}
 use borrow.Author.Tests.{leb-true, ltb-true, lt-ltb, le-leb, lt-leb, ne_eqb}
 use Rattle.std.proofs.Common.{Result, Ok}
 use Rattle.std.specs.Result.{IsErrAnd}
@@ -187,11 +187,3 @@ module _ {tape : List ℕ} {i : ℕ} {old words : List ℕ} {k : ℕ} (g : Fills
       let n = numbers_length (length old) i tape in
       let e : k ≡ length old = omega arith in
       g.filled ∙ rw (e, drop-length old, append-nil) (take_all (length old) l (omega arith))
-
--- n words that hold numbers are a part of an array, and taken from it again
-module _ {n m : ℕ} {words : List ℕ} (tape : List ℕ) (z : n ≡ m) (e : words ≡ numbers_from m 2 tape) where
-  pub filled_length : length words ≡ n
-  filled_length = ap length e ∙ numbers_length m 2 tape ∙ sym z
-
-  pub filled_part : (rest : List ℕ) → take n (words ++ rest) ≡ numbers_from n 2 tape
-  filled_part rest = take_at words rest n filled_length ∙ rw z e

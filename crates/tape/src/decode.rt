@@ -9,6 +9,7 @@ ghost use Rattle.tape.specs.declared.Instruction.TheVariants as instruction;
 use crate::Instruction;
 use crate::opcode::Opcode;
 use table::Change;
+use table::limits::MAX_TAPE_RING;
 use table::refusals::Refusal;
 
 // A byte of the tape, 0 past its end.
@@ -27,13 +28,22 @@ pub fn number_at(tape: &[u8], i: usize) -> u16
 }
 
 // The numbers of a tape from a place on, as many as there are words to fill.
-pub fn read_numbers(tape: &[u8], from: usize, words: &mut [u16])
+fn read_numbers(tape: &[u8], from: usize, words: &mut [u16])
     requires { (from ≤ 2) × (length words.old ≤ max_tape_ring) }
     ensures { words.new ≡ numbers_from (length words.old) from tape.now }
 {
     for (k, word) in words.iter_mut().enumerate() {
         *word = number_at(tape, from + 2 * k);
     }
+}
+
+// The darts of a ring of n double-links, which stand after its count; into the front of the words.
+pub fn read_ring<'a>(tape: &[u8], n: u8, words: &'a mut [u16; MAX_TAPE_RING]) -> &'a [u16]
+    ensures { result.now ≡ numbers_from (2 * n) 2 tape.now }
+{
+    let ring = &mut words[..2 * usize::from(n)];
+    read_numbers(tape, 2, ring);
+    ring
 }
 
 // The N numbers after a command's byte.

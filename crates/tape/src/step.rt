@@ -23,9 +23,7 @@ fn cut_tape_ring(table: &mut [u16], tape: &[u8], n: u8) -> Result<(), Refusal>
         ring_leaves table.old (numbers_from (2 * n) 2 tape.now) }
 {
     let mut words = [0u16; MAX_TAPE_RING];
-    let ring = &mut words[..2 * usize::from(n)];
-    decode::read_numbers(tape, 2, ring);
-    cut::cut_ring(table, ring)
+    cut::cut_ring(table, decode::read_ring(tape, n, &mut words))
 }
 
 // A report is accepted and changes nothing.

@@ -1,4 +1,4 @@
-use Rattle.std.proofs.Common.{sym, ◌∙◌, refl, arith}
+use Rattle.std.proofs.Common.{refl, arith}
 use Rattle.table.proofs.Replying.{number_positive, exits}
 use Rattle.journal.proofs.Additions.{change_refused, change_room, change_writable, change_made}
 use Rattle.journal.proofs.adding.add_change.Goals as goal
