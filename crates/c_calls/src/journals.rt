@@ -10,7 +10,7 @@ ghost use Rattle.journal_calls.specs.Calls.{journaled_of, journaled_run_of, undo
 
 use journal_calls::Head;
 use journal_calls::c_replies::{Journaled, JournaledRun, Undone};
-use table::Dimension;
+use table::Change;
 
 // CHANGES
 
@@ -28,7 +28,7 @@ pub extern "C" fn lotskadi_journal_put(
     ensures journal { journal.new ≡ (perform_reply
         (state_of table.old journal.old head) (changes (puts x))).state.journal }
 {
-    let answer = journal_calls::put(table, journal, &mut head, x);
+    let answer = journal_calls::make_change(table, journal, &mut head, Change::Put(x));
     Journaled::new(answer, head)
 }
 
@@ -46,7 +46,7 @@ pub extern "C" fn lotskadi_journal_take_out(
     ensures journal { journal.new ≡ (perform_reply
         (state_of table.old journal.old head) (changes (takes_out x))).state.journal }
 {
-    let answer = journal_calls::take_out(table, journal, &mut head, x);
+    let answer = journal_calls::make_change(table, journal, &mut head, Change::TakeOut(x));
     Journaled::new(answer, head)
 }
 
@@ -65,7 +65,7 @@ pub extern "C" fn lotskadi_journal_edge_join(
     ensures journal { journal.new ≡ (perform_reply
         (state_of table.old journal.old head) (changes (joins edge a b))).state.journal }
 {
-    let answer = journal_calls::join(table, journal, &mut head, Dimension::Edge, a, b);
+    let answer = journal_calls::make_change(table, journal, &mut head, Change::EdgeJoin(a, b));
     Journaled::new(answer, head)
 }
 
@@ -84,7 +84,7 @@ pub extern "C" fn lotskadi_journal_vertex_join(
     ensures journal { journal.new ≡ (perform_reply
         (state_of table.old journal.old head) (changes (joins vertex a b))).state.journal }
 {
-    let answer = journal_calls::join(table, journal, &mut head, Dimension::Vertex, a, b);
+    let answer = journal_calls::make_change(table, journal, &mut head, Change::VertexJoin(a, b));
     Journaled::new(answer, head)
 }
 
@@ -103,7 +103,7 @@ pub extern "C" fn lotskadi_journal_edge_cut(
     ensures journal { journal.new ≡ (perform_reply
         (state_of table.old journal.old head) (changes (cuts edge a b))).state.journal }
 {
-    let answer = journal_calls::cut(table, journal, &mut head, Dimension::Edge, a, b);
+    let answer = journal_calls::make_change(table, journal, &mut head, Change::EdgeCut(a, b));
     Journaled::new(answer, head)
 }
 
@@ -122,7 +122,7 @@ pub extern "C" fn lotskadi_journal_vertex_cut(
     ensures journal { journal.new ≡ (perform_reply
         (state_of table.old journal.old head) (changes (cuts vertex a b))).state.journal }
 {
-    let answer = journal_calls::cut(table, journal, &mut head, Dimension::Vertex, a, b);
+    let answer = journal_calls::make_change(table, journal, &mut head, Change::VertexCut(a, b));
     Journaled::new(answer, head)
 }
 

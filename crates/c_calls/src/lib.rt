@@ -1,6 +1,6 @@
 // The public calls for C, thin: each passes on what it is lent to a call of the kernel, under the prefix lotskadi_, and
-// tells its answer in a number or in a struct of C. The dimension and the part stand in the name, since C has no such
-// enums. include/lotskadi.h declares them.
+// tells its answer in a number or in a struct of C. The dimension and the part stand in the name, since an exported
+// function takes no enum. include/lotskadi.h declares them.
 
 #![tactic(auto)]
 

@@ -1,29 +1,33 @@
 -- One change and one ring, made and written into the journal, or refused. Assumes nothing.
 use mathlib.Core.Path.{◌≡◌, refl, ap, sym, ◌∙◌}
-use mathlib.Core.Bool.{true, ◌&&◌}
+use mathlib.Core.Bool.{cond, true}
 use mathlib.Core.List.{List}
-use Prim.Native.Nat.{ℕ, ◌+◌, ◌-◌, ◌*◌, ◌/◌, ◌%◌, ◌≤◌, ◌<◌}
+use Prim.Native.Nat.{ℕ, ◌+◌, ◌-◌, ◌*◌, ◌/◌, ◌≤◌, ◌<◌}
 use native.Mathlib.Omega.{arith}
-use lib.Dec.{leb, ltb, eqb}
+use lib.Dec.{eqb}
 use lib.ListN.{length}
-use borrow.Author.Tests.{leb-true, le-leb, lt-leb}
-use Rattle.hypermap.proofs.Basics.Bools.{and_right}
-use Rattle.table.specs.Limits.{words_per_entry, max_word, max_capacity, max_ring, max_entries}
-use Rattle.table.specs.Refusals.{journal_full, or_else, unless}
+use borrow.Author.Tests.{le-leb, lt-leb, eqb-true}
+use Rattle.hypermap.proofs.Basics.Bools.{by_cases}
+use Rattle.table.specs.Limits.{words_per_entry, max_word, max_capacity, max_entries}
+use Rattle.table.specs.Refusals.{journal_full, or_else}
 use Rattle.table.specs.Layout.{Table, capacity}
 use Rattle.table.specs.Commands.{Command, puts, takes_out, joins, cuts, command_refusal, command_on, leaves}
 use Rattle.table.proofs.Reading.{number_small}
-use Rattle.table.proofs.Stages.{passed, fitting, refused_first, refused, accepted}
-use Rattle.table.proofs.Replying.{goes_on, fails, holds}
+use Rattle.table.proofs.Stages.{passed, fitting, accepted}
+use Rattle.table.proofs.Replying.{number_positive, goes_on, fails, holds}
 use Rattle.table.proofs.Accepting.{put_passed, take_out_passed, join_passed, cut_passed}
-use Rattle.rings.specs.Rings.{is_list, ring_refusal}
-use Rattle.rings.proofs.Conditions.{accepted_list}
-use Rattle.tape.specs.Steps.{TapeCommand, changes, reports, step_refusal}
+use Rattle.rings.proofs.Conditions.{accepted_listed}
+use Rattle.rings.specs.Rings.{links_of, cuts_of, ring_refusal, cut_along}
+use Rattle.tape.proofs.Playing.{leaves_is}
+use Rattle.tape.specs.Steps.{TapeCommand, changes, cuts_ring, step_refusal}
 use Rattle.journal.specs.Entries.{Journal, entry_of, with_entry, with_entries}
 use Rattle.journal.specs.Heads.{has_room, room_refusal}
 use Rattle.journal.specs.Journaling.{Recorded, changes_in, journaled_refusal, journaled_on}
-use Rattle.journal.specs.Inner.{recorded, Journals, IsRoom, WritableChange, WithinJournal, RoomForCuts}
+use Rattle.journal.specs.Inner.{recorded, journaled_leaves, IsRoom, WritableChange, WithinJournal}
+use Rattle.journal.specs.Inner.{RoomForCuts}
+use Rattle.journal.proofs.CutEntries.{cuts_length}
 use Rattle.journal.proofs.Room.{room_known, room_left}
+use Rattle.journal.proofs.Running.{made_within}
 
 -- the darts of an accepted command are words, and a lacked operand is 0
 operands_small :
@@ -36,37 +40,11 @@ operands_small w h (joins k a b) e =
 operands_small w h (cuts k a b) e =
     let j = cut_passed w k a b e in (number_small w a h j.first, number_small w b h j.second)
 
--- WHAT A JOURNALED COMMAND REPLIES AND LEAVES, by its two stages: its own refusal, and 18
-module _ (s : Recorded) (c : TapeCommand) where
-  abbrev own : ℕ
-  own = step_refusal s.table c
-
-  abbrev room : ℕ
-  room = room_refusal s.journal s.used (length (changes_in c))
-
-  -- the reply n is not 0
-  refuses : (n : ℕ) → n ≡ journaled_refusal s c → (n ≡ 0 → ⊥) → Journals s c n s
-  refuses n e d = (e, refused _ n _ _ e d)
-
-  pub own_refuses : (n : ℕ) → n ≡ own → (n ≡ 0 → ⊥) → Journals s c n s
-  unfolding journaled_refusal
-  own_refuses n e d = refuses n (refused_first own room n e d) d
-
-  module _ (z : 0 ≡ own) where
-    pub room_refuses : (n : ℕ) → n ≡ room → (n ≡ 0 → ⊥) → Journals s c n s
-    unfolding journaled_refusal
-    room_refuses n e d = refuses n (goes_on own room n z e) d
-
-    pub both_accept : 0 ≡ room → (t : Recorded) → t ≡ journaled_on s c → Journals s c 0 t
-    unfolding journaled_refusal
-    both_accept e t q = let f = goes_on own room 0 z e in (f, accepted _ 0 _ _ _ f refl q)
-
--- a report adds nothing
-pub report_adds :
-    (w : Table) (j : Journal) (n : ℕ) → has_room j n ≡ true → Journals (recorded w j n) reports 0 (recorded w j n)
-unfolding room_refusal unless with_entries
-report_adds w j n t =
-    let z : n + 0 ≡ n = omega arith in both_accept _ _ refl (rw (z, t)) _ (rw z)
+-- AN ACCEPTED COMMAND whose reply is n leaves the state with its changes
+pub accepted_leaves :
+    (s : Recorded) (c : TapeCommand) (n : ℕ) → n ≡ journaled_refusal s c → n ≡ 0 →
+    (t : Recorded) → t ≡ journaled_on s c → t ≡ journaled_leaves s c
+accepted_leaves s c n e z t q = accepted _ n _ _ t e z q
 
 -- ROOM for n entries after the used ones, by the room r of all
 module _ (j : Journal) (used n : ℕ) (r : ℕ) (known : IsRoom j r) (fits : has_room j used ≡ true) where
@@ -81,6 +59,9 @@ module _ (j : Journal) (used n : ℕ) (r : ℕ) (known : IsRoom j r) (fits : has
   unfolding room_refusal
   room_suffices l = let low = within_room in holds _ _ _ (sym (known (used + n))) (le-leb (used + n) r (omega arith))
 
+-- WHAT THE CHECK TRIES BY ITSELF on room
+pub ruleset rooms = (within_room, room_lacks, room_suffices)
+
 -- what an accepted room says
 pub room_given :
     (j : Journal) (used n : ℕ) → 0 ≡ room_refusal j used n →
@@ -88,22 +69,30 @@ pub room_given :
 unfolding room_refusal
 room_given j used n e = room_known j (used + n) (fitting _ journal_full (omega arith) (sym e))
 
--- ONE CHANGE, judged and made at once: n is its reply, which is that of the room r where the change is accepted
+-- ONE CHANGE, judged and made at once: n is its reply, which is that of the room r where the change is accepted, and v
+-- the table afterwards
 module _ (w : Table) (j : Journal) (used : ℕ) (c : Command) (r n : ℕ) (room : r ≡ room_refusal j used 1)
     (e : n ≡ or_else (command_refusal w c) r) where
-  judged : n ≡ journaled_refusal (recorded w j used) (changes c)
+  pub change_judged : n ≡ journaled_refusal (recorded w j used) (changes c)
   unfolding journaled_refusal
-  judged = e ∙ ap (or_else (command_refusal w c)) room
+  change_judged = e ∙ ap (or_else (command_refusal w c)) room
 
   module _ (v : Table) (q : v ≡ leaves (or_else (command_refusal w c) r) (command_on w c) w) where
-    pub change_refused : (n ≡ 0 → ⊥) → Journals (recorded w j used) (changes c) n (recorded v j used)
-    change_refused d =
-        let stays = q ∙ sym (refused _ n _ _ e d) in
-        rw stays (judged, refused _ n _ _ judged d)
+    pub change_within : WithinJournal w j used → WithinJournal v j used
+    unfolding leaves
+    change_within h =
+        by_cases (eqb (or_else (command_refusal w c) r) 0)
+        (λ t.
+        let p = passed (command_refusal w c) r (eqb-true _ 0 t) in
+        rw (q, t) (made_within w j used (changes c) h p.0))
+        (λ f. rw (q, f) h)
 
     module _ (z : n ≡ 0) where
       stages : (command_refusal w c ≡ 0) × (r ≡ 0)
       stages = passed (command_refusal w c) r (sym e ∙ z)
+
+      made : v ≡ command_on w c
+      made = q ∙ sym (accepted _ n _ _ (command_on w c) e z refl)
 
       pub change_room : (words_per_entry * (used + 1) ≤ length j) × (used + 1 ≤ max_entries)
       change_room = room_given j used 1 (sym stages.1 ∙ room)
@@ -114,25 +103,46 @@ module _ (w : Table) (j : Journal) (used : ℕ) (c : Command) (r n : ℕ) (room 
           let r = change_room.0 in
           record { words = omega arith; first = i.0; second = i.1 }
 
-      pub change_made :
+      pub change_written :
           (l : Journal) → l ≡ with_entry j used (entry_of c) →
-          Journals (recorded w j used) (changes c) 0 (recorded v l (used + 1))
+          recorded v l (used + 1) ≡ journaled_on (recorded w j used) (changes c)
       unfolding with_entries
-      change_made l p =
-          let made = q ∙ sym (accepted _ n _ _ (command_on w c) e z refl) in
-          let f = sym z ∙ judged in
-          (f, accepted _ 0 _ _ _ f refl (rw (made, p) refl))
+      change_written l p = rw (made, p)
 
 -- A RING
--- an accepted list is short
-pub ring_short : (w : Table) (ws : List ℕ) → ring_refusal w ws ≡ 0 → length ws ≤ max_ring
-unfolding is_list
-ring_short w ws e =
-    leb-true (length ws) max_ring
-    (and_right (ltb 0 (length ws) && eqb (length ws % 2) 0) (leb (length ws) max_ring) (accepted_list w ws e).list)
+module _ (w : Table) (j : Journal) (used : ℕ) (ws : List ℕ) where
+  module _ (e : journaled_refusal (recorded w j used) (cuts_ring ws) ≡ 0) where
+    stages_of_ring :
+        (ring_refusal w ws ≡ 0) × (room_refusal j used (length (cuts_of (links_of ws))) ≡ 0)
+    unfolding journaled_refusal
+    stages_of_ring = passed (ring_refusal w ws) (room_refusal j used (length (cuts_of (links_of ws)))) e
 
--- room for all of its entries
-pub ring_room :
-    (j : Journal) (used : ℕ) (ws : List ℕ) → 0 ≡ room_refusal j used (length ws / 2) →
-    RoomForCuts j used (length ws)
-ring_room j used ws e = let r = room_given j used (length ws / 2) e in record { in_words = r.0; in_limit = r.1 }
+    pub ring_accepted : ring_refusal w ws ≡ 0
+    ring_accepted = stages_of_ring.0
+
+    -- room for all of its entries
+    pub ring_room : RoomForCuts j used (length ws)
+    ring_room =
+        let r = rw (cuts_length ws) at (room_given j used (length (cuts_of (links_of ws))) (sym stages_of_ring.1)) in
+        record { in_words = r.0; in_limit = r.1 }
+
+    pub ring_written :
+        (v : Table) → v ≡ cut_along (links_of ws) w →
+        (l : Journal) → l ≡ with_entries j used (cuts_of (links_of ws)) →
+        recorded v l (used + length ws / 2) ≡ journaled_on (recorded w j used) (cuts_ring ws)
+    ring_written v q l p = rw (q, p, cuts_length ws)
+
+-- WHAT THE CHECK TRIES BY ITSELF on a journaled command: the definitions, opened
+pub or_else_is : (n m : ℕ) → or_else n m ≡ cond (eqb n 0) m n
+unfolding or_else
+or_else_is n m = refl
+
+pub journaled_is :
+    (s : Recorded) (c : TapeCommand) →
+    journaled_refusal s c ≡ or_else (step_refusal s.table c) (room_refusal s.journal s.used (length (changes_in c)))
+unfolding journaled_refusal
+journaled_is s c = refl
+
+pub ruleset journaling = (or_else_is, leaves_is, journaled_is, number_positive)
+
+pub ruleset ring_journaling = (journaling, cuts_length, ring_room, accepted_listed)

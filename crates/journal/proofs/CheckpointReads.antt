@@ -1,14 +1,21 @@
 -- A checkpoint as code reads it. Assumes nothing.
-use mathlib.Core.Path.{◌≡◌, refl, sym, ◌∙◌}
+use mathlib.Core.Bool.{Bool, true, false, cond, not}
+use lib.Dec.{ltb, eqb}
+use mathlib.Core.Path.{◌≡◌, refl, ◌∙◌}
 use mathlib.Core.List.{List, [], ◌∷◌}
-use Rattle.std.proofs.Common.{Some, None}
+use Rattle.std.specs.Prelude.{Option, Some, None, MatchOption}
+use Rattle.std.specs.Option.{option_copied}
+use Rattle.std.specs.Bool.{then_some}
+use Rattle.std.proofs.Common.{Bor}
+use Rattle.std.specs.Slice.{IsItemAt}
 use Prim.Native.Nat.{ℕ, zero, suc, ◌≤◌, ◌<◌}
 use native.Mathlib.Omega.{arith}
 use lib.ListN.{length, get_or}
-use borrow.Author.Tests.{eq-eqb, ne_eqb, lt-ltb, le-ltb}
+use borrow.Author.Tests.{lt-ltb, le-ltb}
 use Rattle.table.specs.Limits.{unset, checkpoint_count}
-use Rattle.table.specs.Refusals.{unless}
-use Rattle.journal.specs.Heads.{checkpoint_of, back_refusal}
+use Rattle.table.specs.Refusals.{no_mark, unless}
+use Rattle.tape.proofs.Playing.{leaves_is}
+use Rattle.journal.specs.Heads.{checkpoint_of, back_refusal, set_refusal}
 use Rattle.journal.specs.Inner.{CheckpointRead}
 use Rattle.journal.specs.declared.Head.{Head}
 
@@ -17,26 +24,33 @@ any_default [] i d e h = absurd (omega arith)
 any_default (x ∷ xs) zero d e h = refl
 any_default (x ∷ xs) (suc i) d e h = any_default xs i d e (omega arith)
 
--- a number is read where it is below the count, and set
+-- A CHECKPOINT THAT IS READ: looked up, and kept where it is set
 module _ (h : Head) (c : ℕ) where
-  pub read_set :
-      c < checkpoint_count → length h.checkpoints ≡ checkpoint_count → (get_or h.checkpoints c 0 ≡ unset → ⊥) →
-      CheckpointRead h c (Some (get_or h.checkpoints c 0))
-  unfolding back_refusal checkpoint_of unless
-  read_set l z n =
-      let xs = h.checkpoints in
-      let a = any_default xs c 0 unset (omega arith) in
-      (rw (lt-ltb c checkpoint_count l, ne_eqb (get_or xs c unset) unset (λ x. n (a ∙ x))), a)
-
-  pub read_unset :
-      c < checkpoint_count → length h.checkpoints ≡ checkpoint_count → get_or h.checkpoints c 0 ≡ unset →
-      CheckpointRead h c None
-  unfolding back_refusal checkpoint_of unless
-  read_unset l z n =
-      let xs = h.checkpoints in
-      let a = any_default xs c 0 unset (omega arith) in
-      rw (lt-ltb c checkpoint_count l, eq-eqb (get_or xs c unset) unset (sym a ∙ n))
-
-  pub read_above : checkpoint_count ≤ c → CheckpointRead h c None
+  read_none : checkpoint_count ≤ c → CheckpointRead h c None
   unfolding back_refusal unless
-  read_above l = rw (le-ltb c checkpoint_count l)
+  read_none l = rw (le-ltb c checkpoint_count l)
+
+  read_some :
+      (n : ℕ) → c < checkpoint_count → n ≡ checkpoint_of h c → (b : Bool) → b ≡ not (eqb n unset) →
+      CheckpointRead h c (then_some b n)
+  unfolding back_refusal unless
+  read_some n l e true f = (rw (lt-ltb c checkpoint_count l, ← e, ← f), e)
+  read_some n l e false f = rw (lt-ltb c checkpoint_count l, ← e, ← f)
+
+  pub read_kept :
+      (g : Option (Bor ℕ)) (r : Option ℕ) (Kept : ℕ → Bool → Type 0) → length h.checkpoints ≡ checkpoint_count →
+      IsItemAt h.checkpoints c g → ((x : ℕ) (b : Bool) → Kept x b → b ≡ not (eqb x unset)) →
+      MatchOption (option_copied g) (r ≡ None) (λ x. (b : Bool) × Kept x b × (r ≡ then_some b x)) →
+      CheckpointRead h c r
+  unfolding checkpoint_of
+  read_kept None r Kept z i e m = rw m (read_none (omega (arith, z, i.3)))
+  read_kept (Some p) r Kept z i e (b, k, m) =
+      let l : c < length h.checkpoints = i.3.0 in
+      rw m (read_some p.now (omega (arith, z, l)) (i.1 ∙ any_default _ c p.now unset l) b (e _ _ k))
+
+-- WHAT THE CHECK TRIES BY ITSELF on a checkpoint that is set
+pub set_refusal_is : (c : ℕ) → set_refusal c ≡ cond (ltb c checkpoint_count) 0 no_mark
+unfolding set_refusal unless
+set_refusal_is c = refl
+
+pub ruleset sets = (set_refusal_is, leaves_is)

@@ -1,14 +1,13 @@
 -- The entries of a ring's cuts, written one after the other. Assumes nothing.
 use mathlib.Core.Path.{◌≡◌, refl, ap, sym, ◌∙◌}
 use mathlib.Core.List.{List, [], ◌∷◌}
-use Prim.Native.Nat.{ℕ, suc, ◌+◌, ◌*◌, ◌/◌, ◌≤◌}
+use Prim.Native.Nat.{ℕ, suc, ◌+◌, ◌/◌}
 use native.Mathlib.Omega.{arith}
 use lib.ListN.{length}
 use Rattle.hypermap.specs.Ring.{DoubleLink}
-use Rattle.table.specs.Limits.{words_per_entry, max_entries}
 use Rattle.rings.specs.Rings.{links_of, cuts_of}
 use Rattle.journal.specs.Entries.{Journal, with_entry, with_entries}
-use Rattle.journal.specs.Inner.{entry, RoomForCuts}
+use Rattle.journal.specs.Inner.{entry}
 use Rattle.journal.proofs.EntryWords.{entry_length}
 
 pub links_length : (ws : List ℕ) → length (links_of ws) ≡ length ws / 2
@@ -42,12 +41,6 @@ module _ (j : Journal) (used : ℕ) (ws : List ℕ) where
   all_written l n i = sym i.rest
 
   module _ (k : DoubleLink) (ls : List DoubleLink) (l : Journal) (n : ℕ) (i : CutsWritten j used ws (k ∷ ls) l n) where
-    pub here_writable : RoomForCuts j used (length ws) → words_per_entry * n + words_per_entry ≤ length l
-    here_writable r = omega (arith, i.count, i.size, r.in_words)
-
-    pub counted : RoomForCuts j used (length ws) → n + 1 ≤ max_entries
-    counted r = omega (arith, i.count, r.in_limit)
-
     pub one_written :
         (m : Journal) → m ≡ with_entry l n (entry 4 k.first k.second) → CutsWritten j used ws ls m (n + 1)
     unfolding with_entries cuts_of

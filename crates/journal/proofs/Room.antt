@@ -41,6 +41,3 @@ module _ (j : Journal) where
   module _ (r : ℕ) (known : IsRoom j r) where
     pub room_left : (n : ℕ) → has_room j n ≡ true → n ≤ r
     room_left n t = leb-true n r (sym (known n) ∙ t)
-
-    pub room_is : (n : ℕ) → n ≤ r → has_room j n ≡ true
-    room_is n l = known n ∙ le-leb n r l

@@ -1,10 +1,11 @@
 -- One entry undone, by its byte, and the loop that goes back entry by entry. Assumes nothing.
 use mathlib.Core.Path.{◌≡◌, refl, ap, sym, ◌∙◌}
-use mathlib.Core.Bool.{Bool, true, false, ◌&&◌}
-use Rattle.std.proofs.Common.{Option, MatchOption}
-use Rattle.std.specs.Bool.{then_some}
-use Rattle.table.specs.declared.Change.{Change}
-use Rattle.table.specs.Inner.{command_for}
+use mathlib.Core.Bool.{cond, true, false, ◌&&◌}
+use Rattle.std.specs.Prelude.{Result, Ok, Err, MatchResult, IsErrAnd, is_ok}
+use Rattle.table.specs.Replies.{reply}
+use Rattle.table.specs.declared.refusals.Refusal.{Refusal}
+use Rattle.tape.specs.Replies.{run_reply}
+use Rattle.tape.specs.declared.Stopped.{Stopped}
 use mathlib.Core.List.{◌∷◌}
 use Prim.Native.Nat.{ℕ, zero, suc, ◌+◌, ◌-◌, ◌*◌, ◌≤◌, ◌<◌}
 use native.Mathlib.Omega.{arith}
@@ -16,16 +17,18 @@ use Rattle.hypermap.proofs.Basics.Bools.{refuted, and_left, and_right}
 use Rattle.table.specs.Limits.{words_per_entry}
 use Rattle.table.specs.Refusals.{undo_unfit, unless}
 use Rattle.table.specs.Layout.{Table}
-use Rattle.table.specs.Commands.{Command, opposite, command_refusal, command_leaves, leaves}
+use Rattle.table.specs.Commands.{opposite, command_refusal, leaves}
 use Rattle.table.specs.Runs.{run_by, rule_leaves}
 use Rattle.table.specs.Inner.{WithinCapacity}
 use Rattle.table.proofs.Stages.{fitting}
+use Rattle.table.proofs.Replying.{number_positive}
 use Rattle.table.proofs.Commands.{keeps_hypermap_law}
 use Rattle.table.proofs.Runs.{run_law, run_stops, run_goes_on, later, later_one, later_stopped}
 use Rattle.journal.specs.Entries.{Journal, Entry, is_change, command_in, entry_at}
 use Rattle.journal.specs.Undoing.{undo_refusal, undo_on, undo_rule, latest_first, undoing}
+use Rattle.tape.proofs.Playing.{leaves_is}
 use Rattle.tape.specs.Tapes.{operand_sizes, is_command}
-use Rattle.journal.specs.Inner.{entry, Undoable, EntryThere}
+use Rattle.journal.specs.Inner.{entry}
 
 -- a byte of no command
 pub no_change : (byte a b : ℕ) → is_command byte ≡ false → is_change (entry byte a b) ≡ false
@@ -37,33 +40,14 @@ no_change byte a b e =
     let h = leb-true byte 6 (and_right (leb 1 byte) _ i) in
     false≢true (sym e ∙ rw (le-leb 1 byte l, lt-ltb byte 9 (omega arith))))
 
--- a change is read where the operand that it lacks is 0
-pub read_if :
-    (t : Bool) (r : Option Change) (x : Change) (y : Command) → r ≡ then_some t x → command_for x ≡ y →
-    MatchOption r (t ≡ false) (λ c. (t ≡ true) × (command_for c ≡ y))
-read_if true r x y e q = rw e (refl, q)
-read_if false r x y e q = rw e refl
+-- WHAT THE CHECK TRIES BY ITSELF on one entry: the definitions, opened
+pub undo_refusal_is :
+    (w : Table) (y : Entry) →
+    undo_refusal w y ≡ cond (is_change y && eqb (command_refusal w (opposite (command_in y))) 0) 0 undo_unfit
+unfolding undo_refusal unless
+undo_refusal_is w y = refl
 
--- WHAT UNDOING AN ENTRY ANSWERS AND LEAVES
-abbrev pub Undoes : Table → Entry → (number : ℕ) → Table → Type 0
-Undoes w y r v = (r ≡ undo_refusal w y) × (v ≡ rule_leaves undo_rule w y)
-
-pub none_undoes : (w : Table) (y : Entry) → is_change y ≡ false → Undoes w y undo_unfit w
-unfolding undo_refusal unless leaves
-none_undoes w y f = rw f (refl, refl)
-
--- the entry records a change, whose opposite command is o
-module _
-    (w : Table) (y : Entry) (t : is_change y ≡ true) (o : Command) (p : o ≡ opposite (command_in y)) where
-  pub change_undoes : 0 ≡ command_refusal w o → (v : Table) → v ≡ command_leaves w o → Undoes w y 0 v
-  unfolding undo_refusal unless leaves
-  change_undoes e v q = rw (t, ← p, ← e) (refl, rw (← e) at q)
-
-  pub change_stays :
-      (n : ℕ) → n ≡ command_refusal w o → (n ≡ 0 → ⊥) → (v : Table) → v ≡ command_leaves w o → Undoes w y undo_unfit v
-  unfolding undo_refusal unless leaves
-  change_stays n e d v q =
-      let f = ne_eqb (command_refusal w o) 0 (λ z. d (e ∙ z)) in rw (t, ← p, f) (refl, rw f at q)
+pub ruleset undoings = (undo_refusal_is, leaves_is, number_positive)
 
 -- an entry that is undone has an opposite command that is accepted
 pub undo_passed : (w : Table) (y : Entry) → undo_refusal w y ≡ 0 → command_refusal w (opposite (command_in y)) ≡ 0
@@ -93,21 +77,6 @@ pub record Going (w₀ : Table) (j : Journal) (used to : ℕ) (w : Table) (n : �
   pub size : length w ≡ length w₀
   pub same : undoing w₀ j to (used - to) ≡ later (used - n) (undoing w j to (n - to))
 
-module _ (w₀ : Table) (j : Journal) (used to : ℕ) where
-  pub going_start : Undoable w₀ j used to → Going w₀ j used to w₀ used
-  going_start u =
-      let z : used - used ≡ 0 = omega arith in
-      let o = undoing w₀ j to (used - to) in
-      let k : o.accepted ≡ 0 + o.accepted = omega arith in
-      record {
-        low = u.low;
-        high = omega arith;
-        words = u.words;
-        table = u.table;
-        size = refl;
-        same = rw z (ap (λ a. record { number = o.number; accepted = a; state = o.state }) k);
-      }
-
 module _ (w₀ : Table) (j : Journal) (used to : ℕ) (w : Table) (n : ℕ) (h : Going w₀ j used to w n) where
   abbrev Ends : (number undone : ℕ) → Table → Type 0
   Ends m k v = undoing w₀ j to (used - to) ≡ record { number = m; accepted = k; state = v }
@@ -132,9 +101,6 @@ module _
       let k : n - to ≡ suc (n - 1 - to) = omega arith in
       let i : to + (n - 1 - to) ≡ n - 1 = omega arith in
       ap (latest_first j to) k ∙ ap (λ x. x ∷ latest_first j to (n - 1 - to)) (ap (entry_at j) i)
-
-  pub entry_there : EntryThere w j (n - 1)
-  entry_there = let high = h.high in record { table = h.table; words = omega (arith, h.words) }
 
   module _ (f : ℕ) (v : Table) (e : f ≡ undo_refusal w y) (g : v ≡ rule_leaves undo_rule w y) where
     pub going_stop :
@@ -166,3 +132,17 @@ module _
               ap (later (used - n)) (run_goes_on undo_rule y _ w 0 a) ∙ later_one (used - n) _ ∙
               ap (λ c. later c (undoing (undo_on w y) j to (n - 1 - to))) k;
         })
+
+-- AN ANSWER whose refusal is made what stops the run, after k entries
+pub kept_on : (r : Result (Unit {0}) Refusal) → true ≡ is_ok r → reply r ≡ 0
+kept_on (Ok u) e = refl
+kept_on (Err d) e = absurd (false≢true (sym e))
+
+pub stopped_after :
+    (r : Result (Unit {0}) Refusal) (k : ℕ) (s : Stopped) (x : Result ℕ Stopped) (Goes : Unit {0} → Type 0)
+    (Stops : Refusal → Type 0) → MatchResult r Goes Stops →
+    ((d : Refusal) → Stops d → s ≡ record { refusal = d; accepted = k }) → IsErrAnd x (λ t. t ≡ s) →
+    false ≡ is_ok r → (reply r ≡ 0 → ⊥) × (run_reply x ≡ record { number = reply r; accepted = k })
+stopped_after (Ok u) k s x Goes Stops m f i e = absurd (false≢true e)
+stopped_after (Err d) k s (Ok n) Goes Stops m f i e = absurd i
+stopped_after (Err d) k s (Err t) Goes Stops m f i e = (number_positive d, rw (i, f d m) refl)

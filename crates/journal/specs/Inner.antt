@@ -11,7 +11,7 @@ use Rattle.table.specs.declared.Change.{Change}
 use Rattle.tape.specs.Steps.{TapeCommand}
 use Rattle.journal.specs.Entries.{Journal, Entry, entry_of, is_change, command_in}
 use Rattle.journal.specs.Heads.{has_room, checkpoint_of, back_refusal}
-use Rattle.journal.specs.Journaling.{Recorded, journaled_refusal, journal_rule}
+use Rattle.journal.specs.Journaling.{Recorded, journal_rule}
 use Rattle.journal.specs.declared.Head.{Head}
 
 abbrev pub entry : (byte first second : ℕ) → Entry
@@ -23,10 +23,6 @@ recorded w j n = record { table = w; journal = j; used = n }
 -- what a journaled command leaves, accepted or refused
 abbrev pub journaled_leaves : Recorded → TapeCommand → Recorded
 journaled_leaves s c = rule_leaves journal_rule s c
-
--- the reply n to a journaled command, and the state t that it leaves
-abbrev pub Journals : Recorded → TapeCommand → (n : ℕ) → (t : Recorded) → Type 0
-Journals s c n t = (n ≡ journaled_refusal s c) × (t ≡ journaled_leaves s c)
 
 -- what an entry is read as
 abbrev pub Records : Entry → Option Change → Type 0
@@ -57,13 +53,13 @@ pub record RoomForCuts (j : Journal) (used : ℕ) (words : ℕ) : Type 0 where
   pub in_words : words_per_entry * (used + words / 2) ≤ length j
   pub in_limit : used + words / 2 ≤ max_entries
 
--- as many entries as are to be undone
+-- entries are undone from the last of the used ones down to number `to`: all used entries have words
 pub record Undoable (w : Table) (j : Journal) (used to : ℕ) : Type 0 where
   pub table : WithinCapacity w
   pub words : words_per_entry * used ≤ length j
   pub low : to ≤ used
 
--- and one of them
+-- one of them, number n, has words
 pub record EntryThere (w : Table) (j : Journal) (n : ℕ) : Type 0 where
   pub table : WithinCapacity w
   pub words : words_per_entry * n + words_per_entry ≤ length j

@@ -3,3 +3,4 @@ pub mod Heads
 pub mod Journaling
 pub mod Undoing
 pub mod Inner
+pub mod Reports

@@ -6,18 +6,21 @@ ghost use Rattle.journal.specs.Heads.{checkpoint_fits, head_fits, head_refusal, 
 ghost use Rattle.journal.specs.Heads.{cut_back};
 ghost use Rattle.journal.specs.Inner.{IsRoom, CheckpointRead};
 
-use crate::Head;
+use crate::{Head, to_usize};
 use table::limits::{CHECKPOINTS, MAX_ENTRIES, UNSET, WORDS_PER_ENTRY};
 use table::refusals::Refusal;
 
 // How many entries there is room for: by the words, and by the limit.
+#[tactic(auto, using(crate::proofs::Room::room_least))]
 pub fn room_in(journal: &[u16]) -> u32
     ensures { IsRoom journal.now result }
 {
+    // `as`: it fits, and `try_from` would add a branch that panics.
     (journal.len() / WORDS_PER_ENTRY).min(MAX_ENTRIES) as u32
 }
 
 // Whether a checkpoint is not set, or not past the length.
+#[tactic(auto, unfolding(crate::specs::Heads::checkpoint_fits))]
 fn checkpoint_fits(length: u32, checkpoint: u32) -> bool
     ensures { result ≡ checkpoint_fits length checkpoint }
 {
@@ -36,7 +39,8 @@ impl Head {
                 .all(|checkpoint| checkpoint_fits(length, *checkpoint))
     }
 
-    // 17 for a head that does not fit the journal.
+    // 17, undo unfit, for a head that does not fit the journal.
+    #[tactic(auto, unfolding(crate::specs::Heads::head_refusal, table::specs::Refusals::unless))]
     pub fn judge(&self, journal: &[u16]) -> Result<(), Refusal>
         ensures { reply result ≡ head_refusal journal.now self.now }
     {
@@ -50,21 +54,20 @@ impl Head {
     pub fn checkpoint(&self, c: u32) -> Option<u32>
         ensures { CheckpointRead self.now c result }
     {
-        let at = c as usize;
-        if at < CHECKPOINTS && self.checkpoints[at] != UNSET {
-            Some(self.checkpoints[at])
-        } else {
-            None
-        }
+        self.checkpoints
+            .get(to_usize(c))
+            .copied()
+            .filter(|length| *length != UNSET)
     }
 
     // Checkpoint c is set at the length, or moved there.
+    #[tactic(auto, using(crate::proofs::CheckpointReads::sets))]
     pub fn set_checkpoint(&mut self, c: u32) -> Result<(), Refusal>
         ensures value { reply result ≡ set_refusal c }
         ensures head { self.new ≡
             leaves (set_refusal c) (with_checkpoint c self.old) self.old }
     {
-        let at = c as usize;
+        let at = to_usize(c);
         if CHECKPOINTS <= at {
             return Err(Refusal::NoMark);
         }

@@ -3,19 +3,28 @@
 
 #![tactic(auto)]
 
-pub mod adding;
-pub mod entries;
+ghost use Rattle.std.specs.Prelude.{◌≡◌};
+
+mod entries;
 pub mod heads;
-pub mod run;
+pub mod machine;
 pub mod undo;
 
 use table::limits::CHECKPOINTS;
 
 // How many entries are used, and for each checkpoint how many were used when it was set, or 4,294,967,295 where it is
-// not set. Document 02 calls a checkpoint a mark.
+// not set. Document 02 calls a checkpoint a mark. Document 01 names the form: an array of sixteen beside the length.
 #[repr(C)]
 #[derive(Clone, Copy)]
 pub struct Head {
     pub checkpoints: [u32; CHECKPOINTS],
     pub length: u32,
+}
+
+// `as`: every u32 is a usize on the 64-bit target, but the library has no `From` for it.
+#[inline(always)]
+fn to_usize(n: u32) -> usize
+    ensures { result ≡ n }
+{
+    n as usize
 }

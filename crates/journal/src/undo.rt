@@ -13,23 +13,20 @@ use table::changes;
 use table::refusals::Refusal;
 use tape::Stopped;
 
-// Undoes entry n, or answers 17: where it records no change, or where the opposite command is refused.
+// Undoes entry n, or answers 17, undo unfit: where it records no change, or where the opposite command is refused.
+#[tactic(auto, using(crate::proofs::Undoings::undoings))]
 fn undo_entry(table: &mut [u16], journal: &[u16], n: u32) -> Result<(), Refusal>
     requires { EntryThere table.old journal.now n }
     ensures value { reply result ≡ undo_refusal table.old (entry_at journal.now n) }
     ensures table { table.new ≡ rule_leaves undo_rule table.old (entry_at journal.now n) }
 {
-    let Some(change) = entries::change_at(journal, n) else {
-        return Err(Refusal::UndoUnfit);
-    };
-    match changes::perform(table, change.opposite()) {
-        Ok(()) => Ok(()),
-        Err(_) => Err(Refusal::UndoUnfit),
-    }
+    let change = entries::change_at(journal, n).ok_or(Refusal::UndoUnfit)?;
+    changes::perform(table, change.opposite()).map_err(|_| Refusal::UndoUnfit)
 }
 
 // Undoes entries from the last of `used` down to number `to`. Answers how many were undone: all, or those before the
-// one that stopped it.
+// one that stopped it. Not on a `JournaledTable`: that lends the journal to be written, and here it is lent for
+// reading.
 pub fn undo_back(table: &mut [u16], journal: &[u16], used: u32, to: u32) -> Result<u32, Stopped>
     requires { Undoable table.old journal.now used to }
     ensures value { run_reply result ≡ told_of (undoing table.old journal.now to (used - to)) }
@@ -37,12 +34,10 @@ pub fn undo_back(table: &mut [u16], journal: &[u16], used: u32, to: u32) -> Resu
         (undoing table.old journal.now to (used - to)).state }
 {
     for n in (to..used).rev() {
-        if let Err(refusal) = undo_entry(table, journal, n) {
-            return Err(Stopped {
-                refusal,
-                accepted: used - 1 - n,
-            });
-        }
+        undo_entry(table, journal, n).map_err(|refusal| Stopped {
+            refusal,
+            accepted: used - 1 - n,
+        })?;
     }
     Ok(used - to)
 }

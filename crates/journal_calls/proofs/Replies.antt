@@ -21,19 +21,19 @@ use Rattle.tape.specs.declared.Run.{Run}
 use Rattle.tape.specs.declared.Stopped.{Stopped}
 use Rattle.tape.specs.Replies.{run_reply}
 use Rattle.tape.proofs.Playing.{StoppedAtOnce, stopped_reply}
-use Rattle.std.proofs.Common.{Result, Err}
-use Rattle.table.specs.Replies.{number}
+use Rattle.std.specs.Prelude.{Option, Some, None, Result, Err, ok_or}
+use Rattle.table.specs.Replies.{number, reply as number_in}
 use Rattle.table.specs.declared.refusals.Refusal.{Refusal}
 use Rattle.table.specs.declared.refusals.Refusal.TheVariants.{NoMark}
-use Rattle.table.proofs.Replying.{number_positive, goes_on}
+use Rattle.table.proofs.Replying.{number_positive, exits, goes_on}
 use Rattle.soundness.specs.Soundness.{table_refusal, tape_refusal}
-use Rattle.soundness.proofs.Passing.{table_within}
+use Rattle.soundness.proofs.Passing.{table_within, tape_passed}
 use Rattle.journal.specs.Entries.{Journal}
 use Rattle.journal.specs.Heads.{has_room, head_fits, head_refusal, checkpoint_of}
 use Rattle.journal.specs.Heads.{with_checkpoint, cut_back, set_refusal, back_refusal}
 use Rattle.journal.specs.Journaling.{Recorded, journaled_refusal, journal_rule}
 use Rattle.journal.specs.Undoing.{undoing}
-use Rattle.journal.specs.Inner.{WithinJournal, Undoable, Journals}
+use Rattle.journal.specs.Inner.{WithinJournal, Undoable, CheckpointRead, journaled_leaves}
 use Rattle.journal.specs.declared.Head.{Head}
 use Rattle.journal.proofs.Room.{room_known}
 use Rattle.journal.proofs.Checkpoints.{set_checkpoint_low}
@@ -93,13 +93,14 @@ module _ (s : State) (c : TapeCommand) where
 
   -- past the judgement, the table with its journal as the inner call leaves it
   pub performed :
-      0 ≡ state_refusal s → (n : ℕ) (t : Recorded) → Journals (recorded_in s) c n t →
+      0 ≡ state_refusal s → (n : ℕ) → n ≡ journaled_refusal (recorded_in s) c →
+      (t : Recorded) → t ≡ journaled_leaves (recorded_in s) c →
       Gives (perform_reply s c) n (with_recorded s t)
   unfolding perform_refusal leaves or_else
-  performed z n t a =
+  performed z n e t q =
       by_cases (eqb (journaled_refusal (recorded_in s) c) 0)
-      (λ b. rw (← z) (rw b (record { value = a.0; state = ap (with_recorded s) (a.1 ∙ rw b) })))
-      (λ b. rw (← z) (rw b (record { value = a.0; state = ap (with_recorded s) (a.1 ∙ rw b) })))
+      (λ b. rw (← z) (rw b (record { value = e; state = ap (with_recorded s) (q ∙ rw b) })))
+      (λ b. rw (← z) (rw b (record { value = e; state = ap (with_recorded s) (q ∙ rw b) })))
 
 -- A RUN
 abbrev GivesRun : Reply → Run → State → Type 0
@@ -176,10 +177,12 @@ module _ (s : State) (c : ℕ) where
     unfolding back_call_refusal or_else
     judged_back = rw (← z)
 
+    -- no checkpoint to go back to
     pub back_none :
-        back_refusal s.head c ≡ no_mark → (x : Stopped) → (x.refusal ≡ NoMark) × (x.accepted ≡ 0) →
-        GivesRun (back_reply s c) (run_reply (Err x)) s
-    back_none f x q = stays (Err x) NoMark q (sym (judged_back ∙ f))
+        (r : Option ℕ) → CheckpointRead s.head c r → (d : Refusal) → Err d ≡ ok_or r NoMark → (x : Result ℕ Stopped) →
+        StoppedAtOnce x d → GivesRun (back_reply s c) (run_reply x) s
+    back_none None f d e x q = stays x d q (ap number_in e ∙ sym (judged_back ∙ f))
+    back_none (Some n) f d e x q = absurd (number_positive d (ap number_in e))
 
     module _
         (r : ℕ) (q : (back_refusal s.head c ≡ 0) × (r ≡ checkpoint_of s.head c)) (u : Run) (v : Table)
@@ -198,3 +201,15 @@ module _ (s : State) (c : ℕ) where
       went_back_to h p =
           rw (eq-eqb (back_call_refusal s c) 0 (judged_back ∙ q.0), ← q.1)
           (record { value = e; state = rw (p, g, ap (λ x. x.accepted) e) refl })
+
+-- PAST THE JUDGEMENT, by what the code brings
+pub state_ready :
+    (w : Table) (j : Journal) (h : Head) → 0 ≡ state_refusal (state_of w j h) → WithinJournal w j h.length
+state_ready w j h e = state_passed (state_of w j h) (sym e)
+
+-- WHAT THE CALLS ARE PROVED BY
+pub ruleset performing = (number_positive, exits, state_ready, unperformed, performed)
+
+pub ruleset playing = (tape_passed, state_ready, play_long, play_bent, played)
+
+pub ruleset setting = (number_positive, exits, not_judged, set_there)

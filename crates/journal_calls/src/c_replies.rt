@@ -1,4 +1,6 @@
-// What C is told by the calls that bring a journal. The head comes and goes by value there.
+// What C is told by the calls that bring a journal. C has no `Result`, so each struct holds a published number, and 0
+// where nothing was refused. The head comes and goes by value, and is part of what is told: so each struct is made by
+// `new`, with the answer and the head, where a `From` takes the answer alone.
 ghost use Rattle.std.specs.Prelude.{◌≡◌};
 ghost use Rattle.table.specs.Replies.{reply};
 ghost use Rattle.tape.specs.Replies.{run_reply};
@@ -53,7 +55,8 @@ impl JournaledRun {
     }
 }
 
-// Of going back: 0 or the refusal that stopped it, how many changes were undone, and the head to bring next time.
+// Of going back: 0 or the refusal that stopped it, how many changes were undone, and the head to bring next time. This
+// and `JournaledRun` differ in one field's name: two types, since C reads the names.
 #[repr(C)]
 #[derive(Clone, Copy)]
 pub struct Undone {

@@ -1,12 +1,7 @@
 -- What a question that was not refused has passed, and how many marks there are. Assumes nothing.
 use mathlib.Core.Path.{◌≡◌, refl, sym, ◌∙◌}
 use mathlib.Core.Bool.{false}
-use mathlib.Core.List.{List, [], ◌∷◌}
-use Rattle.std.specs.Prelude.{Result}
-use Rattle.std.specs.Result.{IsErrAnd}
-use Rattle.table.specs.Replies.{number, reply}
-use Rattle.table.specs.declared.refusals.Refusal.{Refusal}
-use Rattle.table.proofs.Replying.{stops, goes_on}
+use mathlib.Core.List.{[], ◌∷◌}
 use Prim.Native.Nat.{ℕ}
 use lib.ListN.{length}
 use Rattle.hypermap.specs.Hypermap.{component_of}
@@ -43,21 +38,20 @@ darts_ready w a b e =
     let q = both_present w a b p.1 in
     record { both = record { hypermap = t.hypermap; first = q.0; second = q.1 }; room = t.room }
 
--- the table's refusal comes first, and then that of the darts
-module _ (w : Table) (xs : List ℕ) where
-  pub question_first :
-      {A : Type 0} (r : Result A Refusal) (d : Refusal) → IsErrAnd r (λ y. y ≡ d) → number d ≡ table_refusal w →
-      reply r ≡ question_refusal w xs
-  unfolding question_refusal
-  question_first r d q e = stops r d (table_refusal w) (presence_refusal w xs) q e
-
-  pub question_rest : (r : ℕ) → 0 ≡ table_refusal w → r ≡ presence_refusal w xs → r ≡ question_refusal w xs
-  unfolding question_refusal
-  question_rest r e q = goes_on (table_refusal w) (presence_refusal w xs) r e q
-
 -- no steps are told where two darts share no part
 pub no_steps : (w : Table) (p : Part) (a b : ℕ) → is_same w p a b ≡ false → steps_round w p a b ≡ 0
 no_steps w Edge a b e = rw e
 no_steps w Vertex a b e = rw e
 no_steps w Face a b e = refl
 no_steps w Component a b e = refl
+
+-- WHAT THE CHECK TRIES BY ITSELF on a question that was not refused. It takes a lemma up at the first term of what it
+-- says, so these say that term first
+pub dart_judged :
+    (w : Table) (x : ℕ) → question_refusal w (x ∷ []) ≡ 0 → (question_refusal w (x ∷ []) ≡ 0) × WithinCapacityAt w x
+dart_judged w x e = (e, dart_ready w x e)
+
+pub darts_judged :
+    (w : Table) (a b : ℕ) → question_refusal w (a ∷ b ∷ []) ≡ 0 →
+    (question_refusal w (a ∷ b ∷ []) ≡ 0) × WithinCapacityAtBoth w a b
+darts_judged w a b e = (e, darts_ready w a b e)

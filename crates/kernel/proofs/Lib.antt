@@ -1,4 +1,4 @@
 pub mod Answering
 pub mod Judging
 pub mod Tapes
-pub mod ScreenCall
+pub mod Opening

@@ -1,5 +1,7 @@
 // What C is told of a call's answer: a refusal and zeros, or 0 and what was asked.
 ghost use Rattle.std.specs.Prelude.{◌≡◌};
+ghost use Rattle.table.specs.Replies.{number};
+ghost use Rattle.kernel.specs.Calls.{refused_answer};
 ghost use Rattle.kernel.specs.Replies.{totals_reply, count_reply, shared_reply};
 
 use crate::{Answer, Totals};
@@ -31,6 +33,18 @@ impl From<Result<Counts, Refusal>> for Totals {
     }
 }
 
+// A refusal.
+impl From<Refusal> for Answer {
+    ghost from_gives = { λ refusal told. told ≡ refused_answer (number refusal) };
+
+    fn from(refusal: Refusal) -> Answer {
+        Answer {
+            number: refusal.into(),
+            ..Answer::default()
+        }
+    }
+}
+
 // A count.
 impl From<Result<u32, Refusal>> for Answer {
     ghost from_gives = { λ answer told. told ≡ count_reply answer };
@@ -41,10 +55,7 @@ impl From<Result<u32, Refusal>> for Answer {
                 count,
                 ..Answer::default()
             },
-            Err(refusal) => Answer {
-                number: refusal.into(),
-                ..Answer::default()
-            },
+            Err(refusal) => refusal.into(),
         }
     }
 }
@@ -60,10 +71,7 @@ impl From<Result<Option<u16>, Refusal>> for Answer {
                 yes: steps.is_some(),
                 count: steps.unwrap_or(0).into(),
             },
-            Err(refusal) => Answer {
-                number: refusal.into(),
-                ..Answer::default()
-            },
+            Err(refusal) => refusal.into(),
         }
     }
 }

@@ -1,7 +1,7 @@
 // The kernel's public calls: the whole of what a caller may use. None has a `requires`: whatever words are lent and
 // whatever numbers come, each call answers, and its contract says what, and what every lent word is afterwards.
 
-#![tactic(auto)]
+#![tactic(auto, using(crate::proofs::Opening::calls))]
 
 ghost use Rattle.std.specs.Prelude.{◌≡◌};
 ghost use Rattle.table.specs.Commands.{puts, takes_out, joins, cuts};
@@ -37,7 +37,8 @@ pub use tape::{Run, Stopped};
 use writer::screen::play_and_answer;
 use writer::write;
 
-// What C is told of a report: a refusal and zeros, or 0 and the numbers in document 01's order.
+// What C is told of a report: a refusal and zeros, or 0 and the numbers in document 01's order. The fields of `Counts`
+// are here again, since C's struct and the promises name each of them.
 #[repr(C)]
 #[derive(Clone, Copy, Default)]
 pub struct Totals {
@@ -52,7 +53,8 @@ pub struct Totals {
     pub lifts: u32,
 }
 
-// What C is told of a question: a refusal and nothing else, or 0 and what was asked.
+// What C is told of a question: a refusal and nothing else, or 0 and what was asked. C has no `Result` and no `Option`,
+// so a number and a flag stand beside the count.
 #[repr(C)]
 #[derive(Clone, Copy, Default)]
 pub struct Answer {
@@ -62,7 +64,7 @@ pub struct Answer {
 }
 
 // CHANGES: each is accepted, or refused, and then no word has changed. One call makes them all; the others name one
-// change each.
+// change each, as the interface does, and so are alike.
 
 pub fn make_change(table: &mut [u16], change: Change) -> Result<(), Refusal>
     ensures value { reply result ≡ call_refusal table.old (command_for change) }
@@ -93,6 +95,7 @@ pub fn join(table: &mut [u16], d: Dimension, a: u32, b: u32) -> Result<(), Refus
     ensures value { reply result ≡ call_refusal table.old (joins (dimension_of d) a b) }
     ensures table { table.new ≡ call_leaves table.old (joins (dimension_of d) a b) }
 {
+    // A match: a change has a variant for each dimension.
     match d {
         Dimension::Edge => make_change(table, Change::EdgeJoin(a, b)),
         Dimension::Vertex => make_change(table, Change::VertexJoin(a, b)),
@@ -104,6 +107,7 @@ pub fn cut(table: &mut [u16], d: Dimension, a: u32, b: u32) -> Result<(), Refusa
     ensures value { reply result ≡ call_refusal table.old (cuts (dimension_of d) a b) }
     ensures table { table.new ≡ call_leaves table.old (cuts (dimension_of d) a b) }
 {
+    // A match: a change has a variant for each dimension.
     match d {
         Dimension::Edge => make_change(table, Change::EdgeCut(a, b)),
         Dimension::Vertex => make_change(table, Change::VertexCut(a, b)),
@@ -114,6 +118,7 @@ pub fn cut(table: &mut [u16], d: Dimension, a: u32, b: u32) -> Result<(), Refusa
 
 // Cuts the edge of each double-link of a ring, lent as a list of words: the two darts of each double-link in turn.
 // Document 01: the ring cut, crossing by crossing.
+#[tactic(auto, using(crate::proofs::Opening::calls), unfolding(crate::specs::Calls::ring_call_refusal))]
 pub fn ring_cut(table: &mut [u16], ring: &[u16]) -> Result<(), Refusal>
     ensures value { reply result ≡ ring_call_refusal table.old ring.now }
     ensures table { table.new ≡ ring_call_leaves table.old ring.now }
@@ -142,7 +147,7 @@ pub fn component_report(table: &[u16], x: u32) -> Result<Counts, Refusal>
 }
 
 // How far b is from a round the edge or vertex that both lie in: the fewest steps, each to the successor. 0 where both
-// lie in the face or component that was asked for, None where they lie in no one part of the kind.
+// lie in one face, or component, as was asked. None where no part of the kind that was asked for holds both.
 pub fn same(table: &[u16], part: Part, a: u32, b: u32) -> Result<Option<u16>, Refusal>
     ensures { shared_reply result ≡ same_answer table.now part a b }
 {
@@ -158,11 +163,11 @@ pub fn round(table: &[u16], orbit: Orbit, x: u32, out: &mut [u16]) -> Result<u32
     judge_dart_question(table, x)?;
     let dart = to_word(x);
     let count = walk::orbit_length(table, orbit, dart);
-    if out.len() < count as usize {
+    if out.len() < usize::from(count) {
         return Err(Refusal::ShortRoom);
     }
     walk::write_orbit(table, orbit, dart, out);
-    Ok(count)
+    Ok(count.into())
 }
 
 // For each number up to the capacity the smallest dart of its component into out, 0 where there is no dart. Answers the
@@ -177,22 +182,22 @@ pub fn component_marks(table: &[u16], out: &mut [u16]) -> Result<u32, Refusal>
         return Err(Refusal::ShortRoom);
     }
     flood::mark_components(table, &mut out[..n]);
+    // `as`: the library has no `From<usize>` for `u32`, and `try_from` adds a branch that panics.
     Ok(n as u32)
 }
 
-// The words of dart x in the table, not a copy: the part returned begins at their place in the lent memory. Empty where
-// "same edge as itself" is refused.
+// The words of dart x in the table, not a copy: the part returned begins at their place in the lent memory. It is
+// empty, in place of a refusal, where the question "same tie as itself" is refused: this is the form of document 01.
+#[tactic(auto, using(crate::proofs::Opening::calls), unfolding(crate::specs::Calls::look_place))]
 pub fn look<'a>(table: &'a [u16], x: u32) -> &'a [u16]
     ensures result_value { result.now ≡ look_of table.now x }
     ensures place { result.ref_ptr ≡ look_place table.now x table.entry.ref_ptr }
 {
-    match judge_darts_question(table, x, x) {
-        Ok(()) => {
-            let at = words::place_of(x, EDGE_NEXT);
-            &table[at..at + WORDS_PER_DART]
-        }
-        Err(_) => &table[..0],
-    }
+    let Ok(()) = judge_darts_question(table, x, x) else {
+        return &table[..0];
+    };
+    let at = words::place_of(x, EDGE_NEXT);
+    &table[at..at + WORDS_PER_DART]
 }
 
 // TAPES
@@ -205,7 +210,7 @@ pub fn play(table: &mut [u16], tape: &[u8]) -> Result<u32, Stopped>
 {
     judge_tape(tape)?;
     judge_table(table)?;
-    player::play(table, tape)
+    player::play_table(table, tape)
 }
 
 // What a tape needs, without playing it: the least capacity at which no dart that it names is off the table, its

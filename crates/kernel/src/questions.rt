@@ -1,4 +1,6 @@
-// The refusal of a question about darts: the table is judged first, and then the darts that are named.
+// The refusal of a question about darts: the table is judged first, and then the darts that are named. `make_change` is
+// alike, but has no more in common with these than `judge_table`: a function for both would be no plainer. Nor
+// would one function for an array of darts: it would have a loop where two comparisons stand.
 ghost use Rattle.std.specs.Prelude.{◌≡◌, [], ◌∷◌};
 ghost use Rattle.table.specs.Replies.{reply};
 ghost use Rattle.kernel.specs.Calls.{question_refusal};

@@ -70,3 +70,5 @@ module _ (tape : List ℕ) (n found k : ℕ) (h : Seeking tape n found k) where
       let s : length ns ≡ n = numbers_length n 2 tape in
       let w = h.within in
       h.greatest_so_far ∙ ap greatest (take_all k ns (omega arith))
+
+pub ruleset seeking = (seeking_first, seeking_on, seeking_end, max_larger)

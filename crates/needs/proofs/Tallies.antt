@@ -20,7 +20,8 @@ use Rattle.tape.specs.Steps.{TapeCommand, changes, reports, cuts_ring}
 use Rattle.tape.specs.Tapes.{command_of, read_refusal, size_of, rest_of, contents_of}
 use Rattle.tape.specs.Inner.{meaning}
 use Rattle.tape.specs.declared.Instruction.{Instruction}
-use Rattle.tape.proofs.Contents.{rest_shorter, reading_law}
+use Rattle.tape.proofs.Contents.{rest_shorter, reading_law, size_fits}
+use Rattle.tape.proofs.Playing.{nothing_left, something_left}
 use Rattle.needs.specs.Amounts.{named_by, named_in, larger, greatest, puts_by, take_outs_by, peak_of, changes_by}
 use Rattle.needs.specs.Amounts.{total, needs_of, needed_by}
 use Rattle.needs.specs.Replies.{needs_in}
@@ -28,7 +29,7 @@ use Rattle.needs.specs.declared.Amounts.{Amounts}
 use Rattle.needs.specs.Inner.{peak_after, below_after, added, one_more}
 use Rattle.needs.specs.declared.Needs.{Needs}
 use Rattle.needs.specs.declared.Tally.{Tally}
-use Rattle.needs.proofs.Greatest.{larger_zero, zero_larger, larger_assoc, greatest_append}
+use Rattle.needs.proofs.Greatest.{max_larger, larger_zero, zero_larger, larger_assoc, greatest_append}
 
 -- ONE COMMAND, by the parts that are counted of it
 pub added_by :
@@ -175,3 +176,18 @@ module _ (tape rest : List ℕ) (t : Tally) (h : Counting tape rest t) where
               counted_on t (command_of rest) (contents_of (rest_of rest)).commands ∙
               ap (λ s. counted s (contents_of (rest_of rest)).commands) (sym g);
         })
+
+-- WHAT THE FUNCTIONS ARE PROVED BY
+pub ruleset adding = (max_larger, larger_zero, added_by, added_swap)
+
+pub ruleset counting = (
+  part_to_end,
+  size_fits,
+  rest_shorter,
+  nothing_left,
+  something_left,
+  counting_first,
+  counting_end,
+  counting_refused,
+  counting_on,
+)

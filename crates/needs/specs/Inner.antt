@@ -21,12 +21,13 @@ added t c = record {
   changes = t.changes + changes_by c;
 }
 
--- a command that neither puts nor takes out: it names numbers up to g and makes n changes
+-- one more command, which names numbers up to g and makes n changes; without its part in the peak
 abbrev pub one_more : Tally → (g n : ℕ) → Tally
 one_more t g n =
     record t { capacity = larger t.capacity g; commands = t.commands + 1; changes = t.changes + n }
 
--- the counts of a tape that is not too long
+-- the counts of a tape that is not too long. No plainer as a ghost field of Tally: tried, and `..self` and the
+-- derived `Default` are refused with one
 pub record Countable (t : Tally) : Type 0 where
   pub commands : t.commands ≤ max_tape
   pub peak : t.peak ≤ max_tape

@@ -30,7 +30,7 @@ pub struct Amounts {
     pub words: u32,
 }
 
-// What C is told: 0 and the amounts, or a refusal and zeros.
+// What C, which has no `Result`, is told: 0 and the amounts, or a refusal and zeros.
 #[repr(C)]
 #[derive(Clone, Copy, Default)]
 pub struct Needs {

@@ -18,7 +18,9 @@ use tape::{Instruction, decode};
 // ONE MORE COMMAND
 
 impl Tally {
-    // It names numbers up to `greatest`, and makes so many changes.
+    // Counts a command that names numbers up to `greatest` and makes as many changes as `changes` says. Its part in the
+    // peak is counted by the caller.
+    #[tactic(auto, using(crate::proofs::Greatest::max_larger))]
     fn one_more(self, greatest: u32, changes: u32) -> Tally
         requires { Countable self × (changes ≤ 255) }
         ensures { result ≡ one_more self greatest changes }
@@ -33,22 +35,26 @@ impl Tally {
 
     // A put at the peak of puts less take-outs makes a new one, and else comes nearer to it. The difference may be
     // negative, but how far it lies below its peak is not.
+    #[tactic(auto, using(crate::proofs::Tallies::adding), unfolding(crate::specs::Amounts::greatest))]
     fn add_change(self, change: Change) -> Tally
         requires { Countable self }
         ensures { result ≡ added self (changes (command_for change)) }
     {
+        // A match: each variant has operands of its own, and only puts and take-outs move the peak.
         match change {
             Change::Put(x) => {
+                let tally = self.one_more(x, 1);
                 Tally {
                     peak: self.peak + u32::from(self.below == 0),
                     below: self.below.saturating_sub(1),
-                    ..self.one_more(x, 1)
+                    ..tally
                 }
             }
             Change::TakeOut(x) => {
+                let tally = self.one_more(x, 1);
                 Tally {
                     below: self.below + 1,
-                    ..self.one_more(x, 1)
+                    ..tally
                 }
             }
             Change::EdgeJoin(a, b)
@@ -58,6 +64,7 @@ impl Tally {
         }
     }
 
+    #[tactic(auto, unfolding(crate::specs::Amounts::greatest))]
     fn add_report(self) -> Tally
         requires { Countable self }
         ensures { result ≡ added self reports }
@@ -65,8 +72,10 @@ impl Tally {
         self.one_more(0, 0)
     }
 
-    // A ring of n double-links makes a change for each.
+    // A ring of n double-links makes a change for each. Cold: rings are rare, and their loop stays out of the loop over
+    // commands.
     #[cold]
+    #[tactic(auto, using(crate::proofs::TapeRings::links_numbered))]
     fn add_ring(self, tape: &[u8], n: u8) -> Tally
         requires { Countable self }
         ensures value { result ≡ added self (cuts_ring (numbers_from (2 * n) 2 tape.now)) }
@@ -81,6 +90,7 @@ impl Tally {
         ensures value { result ≡ added self (meaning tape.now instruction) }
         ensures few { result.changes ≤ self.changes + 255 }
     {
+        // A match: the three kinds count different things, and what to count is no value that a caller could hand in.
         match instruction {
             Instruction::Change(change) => self.add_change(change),
             Instruction::Report => self.add_report(),
@@ -89,8 +99,10 @@ impl Tally {
     }
 }
 
-// THE WHOLE TAPE
+// THE WHOLE TAPE. The loop is written out, as in `tape::play`: commands differ in size, and the rest of the tape is
+// needed beside each, for a ring's darts.
 
+#[tactic(auto, using(crate::proofs::Tallies::counting))]
 pub fn needs_of(tape: &[u8]) -> Result<Amounts, Refusal>
     requires { length tape.now ≤ max_tape }
     ensures { needs_in result ≡ needed_by (contents_of tape.now) }

@@ -26,11 +26,12 @@ pub record HasMarks (w : Table) (marks : List ℕ) : Type 0 where
 abbrev pub mark_at : (marks : List ℕ) → (x : ℕ) → ℕ
 mark_at m x = get_or m (x - 1) 0
 
+-- there is a mark for x. No plainer as a type: a struct of table and marks (head of src/marks) does not know x
 pub record HasMark (marks : List ℕ) (x : ℕ) : Type 0 where
   pub low : 1 ≤ x
   pub high : x ≤ length marks
 
--- a dart of a part that is not marked yet
+-- a dart without a mark
 abbrev pub is_fresh : Table → (marks : List ℕ) → (x : ℕ) → Bool
 is_fresh w m x = is_present w x && eqb (mark_at m x) 0
 
@@ -74,6 +75,7 @@ is_marked m v x = eqb (mark_at m x) v
 abbrev pub marked_in : Table → (marks : List ℕ) → (value : ℕ) → Hypermap
 marked_in w m v = restrict (is_marked m v) (hypermap_of w)
 
+-- No plainer as a ghost field of a struct of table and marks: see the head of src/marks
 pub record MarkedSet (w : Table) (marks : List ℕ) (value : ℕ) : Type 0 where
   pub hypermap : holds_hypermap w ≡ true
   pub room : HasMarks w marks
@@ -104,11 +106,9 @@ unfoldable pub flooded_of : Hypermap → Flooded
 flooded_of m = record { components = theory.components m; lifts = numbers.lifts m; faces = theory.faces m }
 
 -- the darts with mark 1, and what floods have found of them
-pub record MarkedParts (w : Table) (marks : List ℕ) (components lifts faces : ℕ) : Type 0 where
+pub record MarkedParts (w : Table) (marks : List ℕ) (found : Flooded) : Type 0 where
   pub set : MarkedSet w marks 1
-  pub is_components : components ≡ theory.components (marked_in w marks 1)
-  pub is_lifts : lifts ≡ numbers.lifts (marked_in w marks 1)
-  pub is_faces : faces ≡ theory.faces (marked_in w marks 1)
+  pub floods : found ≡ flooded_of (marked_in w marks 1)
 
 -- COUNTS that an i32 has room for
 pub record Few (d e v f : ℕ) : Type 0 where

@@ -13,7 +13,10 @@ use crate::marks::{is_fresh, mark_dart, mark_of};
 use table::limits::{EDGE_BACK, MAX_CAPACITY, VERTEX_BACK};
 use table::words;
 
-// Writes value at each dart of the face of y, and its edge predecessor into the queue.
+// Writes value at each dart of the face of y, and the dart's edge predecessor into the queue, from `tail` on. The
+// result is the new tail. Queue and tail stay two values, and the tail is counted by hand: the queue is fixed memory,
+// never emptied, and read while it grows. A struct of both would have to say in each contract that it still holds the
+// same queue.
 pub fn enter(
     table: &[u16],
     y: u16,
@@ -69,7 +72,7 @@ pub fn mark_components(table: &[u16], marks: &mut [u16]) -> u32
     ensures value { result ≡ components (hypermap_of table.now) }
     ensures marks { marks.new ≡ component_marks table.now }
 {
-    let mut queue = [0u16; MAX_CAPACITY];
+    let mut queue = [0u16; MAX_CAPACITY]; // fixed memory: no heap
     marks.fill(0);
     let mut count = 0;
     for x in 1..words::numbers_end(table) {
@@ -82,12 +85,13 @@ pub fn mark_components(table: &[u16], marks: &mut [u16]) -> u32
 }
 
 // Whether b lies in the component of a, which alone is flooded.
+#[tactic(auto, using(table::proofs::Reading::reads))]
 pub fn same_component(table: &[u16], a: u16, b: u16) -> bool
     requires { WithinCapacityAtBoth table.now a b }
     ensures { result ≡ same_component (hypermap_of table.now) a b }
 {
-    let mut marks = [0u16; MAX_CAPACITY];
-    let mut queue = [0u16; MAX_CAPACITY];
+    let mut marks = [0u16; MAX_CAPACITY]; // fixed memory: no heap
+    let mut queue = [0u16; MAX_CAPACITY]; // fixed memory: no heap
     flood(table, a, 1, &mut marks, &mut queue);
     mark_of(&marks, b) == 1
 }

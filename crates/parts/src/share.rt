@@ -11,6 +11,7 @@ pub fn distance(table: &[u16], part: Part, a: u16, b: u16) -> Option<u16>
     requires { WithinCapacityAtBoth table.now a b }
     ensures { result ≡ sharing table.now part a b }
 {
+    // A match: an orbit is walked and a component flooded, and the caller names the part.
     match part {
         Part::Edge => walk::distance(table, Orbit::Edge, a, b),
         Part::Vertex => walk::distance(table, Orbit::Vertex, a, b),

@@ -1,4 +1,4 @@
-pub mod Appending
+pub mod Buffers
 pub mod Numerals
 pub mod Lines
 pub mod Taking

@@ -1,75 +1,79 @@
 -- The first command of a tape, accepted or refused: what it makes of the lines of the run and of the table. Assumes
 -- nothing.
 use mathlib.Core.Path.{◌≡◌, sym, ap, ◌∙◌}
-use mathlib.Core.List.{List}
+use mathlib.Core.List.{List, ◌++◌}
+use mathlib.Core.Logic.{inl, inr}
 use Prim.Native.Nat.{ℕ, ◌<◌}
-use native.Mathlib.Omega.{arith}
-use lib.ListN.{length, length-drop}
-use borrow.Author.Tests.{eq-eqb, ne_eqb}
-use Rattle.std.proofs.Common.{Result, Ok, Err, MatchResult}
-use Rattle.std.specs.Result.{IsErrAnd}
+use lib.Dec.{eqb}
+use lib.ListN.{length, drop}
+use borrow.Author.Tests.{eq-eqb, ne_eqb, eqb-true}
+use Rattle.std.proofs.lemmas.Bool.{cases_Bool}
+use Rattle.table.specs.Refusals.{or_else}
 use Rattle.table.specs.Layout.{Table}
 use Rattle.table.specs.Commands.{leaves}
-use Rattle.table.specs.Inner.{WithinCapacity}
-use Rattle.tape.specs.Steps.{step_refusal, step_on, step_rule, step_leaves}
+use Rattle.table.specs.Replies.{number}
+use Rattle.table.specs.declared.refusals.Refusal.{Refusal}
+use Rattle.table.proofs.Replying.{number_positive}
+use Rattle.tape.specs.Steps.{step_refusal, step_on, step_rule}
+use Rattle.tape.specs.Runs.{run_of, first_refusal, first_leaves}
 use Rattle.tape.specs.Tapes.{size_of, command_of, read_refusal}
 use Rattle.tape.specs.Inner.{meaning}
 use Rattle.tape.specs.declared.Instruction.{Instruction}
-use Rattle.tape.proofs.Contents.{size_fits, rest_shorter}
-use Rattle.tape.proofs.Playing.{run_refused, run_stopped, run_on}
-use Rattle.tape.proofs.Running.{leaves_within}
-use Rattle.plan.specs.Lines.{refused_line, accepted_line}
-use Rattle.plan.specs.Inner.{instruction_line, Accepts, Refuses}
+use Rattle.tape.proofs.Playing.{run_refused, run_stopped, run_on, first_read, first_accepted}
+use Rattle.plan.specs.Lines.{refused_line, accepted_line, lines_of}
+use Rattle.plan.specs.Inner.{instruction_line}
 use Rattle.plan.proofs.Lines.{line_of_meaning, lines_refused, lines_stopped, lines_on}
 
--- what stops a `?` is the answer
-pub exits :
-    {A E : Type 0} (P : A → Type 0) (Q : E → Type 0) (r : Result A E) (d : E) → IsErrAnd r (λ y. y ≡ d) → Q d →
-    MatchResult r P Q
-exits P Q (Ok x) d h q = absurd h
-exits P Q (Err y) d h q = rw h q
+-- the first command of the tape is the instruction i of n bytes, is accepted on the table w and leaves the table v: its
+-- line comes first, and the lines of the run from v over what comes after it follow; and likewise for the table
+pub record Accepts (w : Table) (tape : List ℕ) (i : Instruction) (n : ℕ) (v : Table) : Type 0 where
+  pub lines : lines_of w tape ≡ instruction_line v i ++ lines_of v (drop n tape)
+  pub table : (run_of w tape).state ≡ (run_of v (drop n tape)).state
 
-module _ (w : Table) (tape : List ℕ) (k : WithinCapacity w) (some : 0 < length tape) where
-  -- the decoder refuses
-  pub refuses_unread : (n : ℕ) → n ≡ read_refusal tape → (n ≡ 0 → ⊥) → Refuses w tape n w
-  refuses_unread n e d =
-      let c : read_refusal tape ≡ 0 → ⊥ = λ z. d (e ∙ z) in
+-- the first command has the refusal n, which is all that the run writes, and nothing has changed
+pub record Refuses (w : Table) (tape : List ℕ) (n : ℕ) (v : Table) : Type 0 where
+  pub lines : lines_of w tape ≡ refused_line n
+  pub table : (run_of w tape).state ≡ v
+
+module _ (w : Table) (tape : List ℕ) (some : 0 < length tape) where
+  -- it has a refusal and leaves v
+  pub refuses :
+      (r : Refusal) → number r ≡ first_refusal step_rule w tape → (v : Table) → v ≡ first_leaves step_rule w tape →
+      Refuses w tape (number r) v
+  unfolding first_refusal first_leaves leaves or_else
+  refuses r e v l =
+      let d = number_positive r in
+      let u : v ≡ w = l ∙ rw (ne_eqb _ 0 (λ z. d (e ∙ z))) in
+      elim (cases_Bool (eqb (read_refusal tape) 0)) [
+        | inl q ↦
+            let g : number r ≡ step_refusal w (command_of tape) = e ∙ rw q in
+            let p = eqb-true (read_refusal tape) 0 q in
+            let c : step_refusal w (command_of tape) ≡ 0 → ⊥ = λ z. d (g ∙ z) in
+            record {
+              lines = lines_stopped w tape some p c ∙ ap refused_line (sym g);
+              table = ap (λ o. o.state) (run_stopped step_rule w tape some p c) ∙ sym u;
+            }
+        | inr q ↦
+            let g : number r ≡ read_refusal tape = e ∙ rw q in
+            let c : read_refusal tape ≡ 0 → ⊥ = λ z. d (g ∙ z) in
+            record {
+              lines = lines_refused w tape some c ∙ ap refused_line (sym g);
+              table = ap (λ o. o.state) (run_refused step_rule w tape some c) ∙ sym u;
+            }
+      ]
+
+  -- it is the instruction i of n bytes, is accepted and leaves v
+  pub accepts :
+      (i : Instruction) (n : ℕ) → (meaning tape i ≡ command_of tape) × (n ≡ size_of tape) →
+      0 ≡ first_refusal step_rule w tape → (v : Table) → v ≡ first_leaves step_rule w tape → Accepts w tape i n v
+  unfolding first_leaves leaves
+  accepts i n a e v l =
+      let r = first_read step_rule w tape (sym e) in
+      let c = first_accepted step_rule w tape (sym e) in
+      let s : v ≡ step_on w (command_of tape) = l ∙ rw (eq-eqb (first_refusal step_rule w tape) 0 (sym e)) in
+      let q : instruction_line v i ≡ accepted_line (step_on w (command_of tape)) (command_of tape) =
+      line_of_meaning v tape i ∙ rw (s, a.0) in
       record {
-        lines = lines_refused w tape some c ∙ ap refused_line (sym e);
-        table = ap (λ o. o.state) (run_refused step_rule w tape some c);
+        lines = lines_on w tape some r c ∙ rw (q, s, a.1);
+        table = ap (λ o. o.state) (run_on step_rule w tape some r c) ∙ rw (s, a.1);
       }
-
-  -- it reads the instruction i of n bytes, whose command has the refusal f and leaves v
-  module _
-      (i : Instruction) (n : ℕ)
-      (a : (read_refusal tape ≡ 0) × (meaning tape i ≡ command_of tape) × (n ≡ size_of tape)) (f : ℕ)
-      (e : f ≡ step_refusal w (meaning tape i)) (v : Table) (l : v ≡ step_leaves w (meaning tape i)) where
-    same : f ≡ step_refusal w (command_of tape)
-    same = rw a.1 at e
-
-    pub refuses_stopped : (f ≡ 0 → ⊥) → Refuses w tape f v
-    unfolding leaves
-    refuses_stopped d =
-        let u : v ≡ w = l ∙ rw (ne_eqb (step_refusal w (meaning tape i)) 0 (λ z. d (e ∙ z))) in
-        let c : step_refusal w (command_of tape) ≡ 0 → ⊥ = λ z. d (same ∙ z) in
-        record {
-          lines = lines_stopped w tape some a.0 c ∙ ap refused_line (sym same);
-          table = ap (λ o. o.state) (run_stopped step_rule w tape some a.0 c) ∙ sym u;
-        }
-
-    pub accepts : f ≡ 0 → Accepts w tape i n v
-    unfolding leaves
-    accepts z =
-        let s : v ≡ step_on w (command_of tape) =
-        l ∙ rw (eq-eqb (step_refusal w (meaning tape i)) 0 (sym e ∙ z), a.1) in
-        let q : instruction_line v i ≡ accepted_line (step_on w (command_of tape)) (command_of tape) =
-        line_of_meaning v tape i ∙ rw (s, a.1) in
-        let x = rest_shorter tape some in
-        let y = size_fits tape a.0 in
-        record {
-          lines = lines_on w tape some a.0 (sym same ∙ z) ∙ rw (q, s, a.2);
-          table = ap (λ o. o.state) (run_on step_rule w tape some a.0 (sym same ∙ z)) ∙ rw (s, a.2);
-          within = rw l (leaves_within w (meaning tape i) k).0;
-          least = rw a.2 (omega (arith, length-drop (size_of tape) tape));
-          most = rw a.2 y;
-        }

@@ -1,7 +1,10 @@
 -- The lines that the program writes. Document 01: "It writes `ok` a command, the eight report numbers in the order
 -- above for 07, or `refused` and the number, then ends. .. numbers are decimal, a negative one with a minus in front."
 -- Assumes nothing: these are definitions.
-use Rattle.std.specs.Prelude.{cond, List, [], ◌∷◌, ◌++◌, ℕ, zero, suc, ◌+◌, ◌/◌, ◌%◌, ltb, eqb, ℤ, pos, negsuc}
+use Rattle.std.specs.Prelude.{cond, List, [], ◌∷◌, ◌++◌, length, replicate, ℕ, zero, suc, ◌+◌, ◌*◌, ◌/◌, ◌%◌}
+use Rattle.std.specs.Prelude.{ltb, leb, eqb, ℤ, pos, negsuc}
+use Rattle.table.specs.Limits.{words_per_dart, max_capacity, max_tape}
+use Rattle.table.specs.Refusals.{wrong_size}
 use Rattle.table.specs.Layout.{Table, hypermap_of}
 use Rattle.parts.specs.Counts.{counts_of}
 use Rattle.parts.specs.declared.Counts.{Counts}
@@ -62,3 +65,9 @@ lines_over w (c ∷ cs) n =
 
 abbrev pub lines_of : Table → (tape : List ℕ) → List ℕ
 lines_of w bs = lines_over w (contents_of bs).commands (contents_of bs).refusal
+
+-- THE WHOLE TAPE, played on an empty table. Document 01: "A tape above 65,536 bytes writes `refused 1` alone."
+abbrev pub tape_lines : (tape : List ℕ) → List ℕ
+tape_lines bs =
+    cond (leb (length bs) max_tape) (lines_of (replicate (words_per_dart * max_capacity) 0) bs)
+    (refused_line wrong_size)

@@ -1,30 +1,30 @@
-// Lines of text. Each function appends one to a buffer, or fails where the buffer has no room for it.
-ghost use Rattle.std.specs.Prelude.{◌≡◌, ◌++◌, OnOk};
-ghost use Rattle.table.specs.Inner.{WithinCapacity};
+// Lines of text: the report's, an accepted command's, a refusal's.
+// Their contracts are alike but for the line: they name what the writer holds before and after, as the library does.
+ghost use Rattle.std.specs.Prelude.{◌≡◌, OnOk};
+ghost use Rattle.std.specs.Io.KnownBytes.{Appends};
 ghost use Rattle.table.specs.Replies.{number};
 ghost use Rattle.table.specs.Layout.{hypermap_of};
 ghost use Rattle.parts.specs.Counts.{counts_of};
 ghost use Rattle.plan.specs.Lines.{report_line, refused_line};
 ghost use Rattle.plan.specs.Inner.{instruction_line};
 
-use arrayvec::ArrayString;
 use parts::{Counts, count};
-use std::fmt::{self, Write};
+use std::io::{self, Write};
 use table::refusals::Refusal;
 use tape::Instruction;
+use tape::machine::BareTable;
 
-// Never inlined: in the loop over a tape's commands the count takes a quarter longer.
+// Never inlined: compiled into the loop over a tape's commands, the count is slower.
 #[inline(never)]
-fn counts(table: &[u16]) -> Counts
-    requires { WithinCapacity table.now }
-    ensures { result ≡ counts_of (hypermap_of table.now) }
+fn counts(machine: &BareTable) -> Counts
+    ensures { result ≡ counts_of (hypermap_of machine.now.table.now) }
 {
-    count::counts(table)
+    count::counts(machine.table)
 }
 
 // The numbers in document 01's order.
-fn write_report<const N: usize>(lines: &mut ArrayString<N>, counts: Counts) -> fmt::Result
-    ensures { OnOk result (lines.new.bytes ≡ lines.old.bytes ++ report_line counts) }
+fn write_report<W: Write>(lines: &mut W, counts: Counts) -> io::Result<()>
+    ensures { OnOk result (Appends (W.contents lines.old) (W.contents lines.new) (report_line counts)) }
 {
     let Counts {
         darts,
@@ -43,25 +43,26 @@ fn write_report<const N: usize>(lines: &mut ArrayString<N>, counts: Counts) -> f
 }
 
 // The line of an accepted command, whose change the table has.
-pub fn write_accepted<const N: usize>(
-    lines: &mut ArrayString<N>,
-    table: &[u16],
+pub fn write_accepted<W: Write>(
+    lines: &mut W,
+    machine: &BareTable,
     instruction: Instruction,
-) -> fmt::Result
-    requires { WithinCapacity table.now }
-    ensures { OnOk result (lines.new.bytes ≡ lines.old.bytes ++
-        instruction_line table.now instruction) }
+) -> io::Result<()>
+    ensures { OnOk result (Appends (W.contents lines.old) (W.contents lines.new)
+        (instruction_line machine.now.table.now instruction)) }
 {
+    // A match: only a report has a line of its own.
     match instruction {
-        Instruction::Report => write_report(lines, counts(table)),
+        Instruction::Report => write_report(lines, counts(machine)),
         Instruction::Change(_) | Instruction::RingCut(_) => writeln!(lines, "ok"),
     }
 }
 
 // The last line of a run that is refused.
-pub fn write_refused<const N: usize>(lines: &mut ArrayString<N>, refusal: Refusal) -> fmt::Result
-    ensures { OnOk result (lines.new.bytes ≡ lines.old.bytes ++
-        refused_line (number refusal)) }
+#[tactic(auto, using(crate::proofs::Numerals::decimal_formatted), unfolding(crate::specs::Lines::refused_line))]
+pub fn write_refused<W: Write>(lines: &mut W, refusal: Refusal) -> io::Result<()>
+    ensures { OnOk result (Appends (W.contents lines.old) (W.contents lines.new)
+        (refused_line (number refusal))) }
 {
     writeln!(lines, "refused {}", u8::from(refusal))
 }

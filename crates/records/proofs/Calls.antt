@@ -1,10 +1,10 @@
 -- What the form as records needs of `ring_cut`, plain and journaled: a list that is too long is answered as no list is.
 -- Assumes nothing.
 use mathlib.Core.Path.{◌≡◌, refl, sym, ap, ◌∙◌}
-use mathlib.Core.Bool.{Bool, true, false, ◌&&◌}
+use mathlib.Core.Bool.{false, and-false}
+use native.Mathlib.Omega.{arith}
 use mathlib.Core.List.{List, []}
-use Prim.Native.Nat.{ℕ, ◌<◌, ◌%◌}
-use lib.Dec.{ltb, eqb}
+use Prim.Native.Nat.{ℕ, ◌<◌}
 use lib.ListN.{length}
 use borrow.Author.Tests.{lt-leb}
 use Rattle.table.specs.Limits.{max_ring}
@@ -20,14 +20,9 @@ use Rattle.kernel.specs.Calls.{ring_call_refusal, ring_call_leaves}
 use Rattle.journal_calls.specs.Calls.{State, state_refusal, perform_refusal, perform_reply, reply_by}
 use Rattle.journal_calls.specs.Calls.{recorded_in, with_recorded}
 
-never : (a b c : Bool) → c ≡ false → (a && b && c) ≡ false
-never true true c e = e
-never true false c e = refl
-never false b c e = refl
-
 long_is_none : (ws : List ℕ) → max_ring < length ws → is_list ws ≡ false
 unfolding is_list
-long_is_none ws l = never (ltb 0 (length ws)) (eqb (length ws % 2) 0) _ (lt-leb (length ws) max_ring l)
+long_is_none ws l = rw (lt-leb (length ws) max_ring l) (and-false _)
 
 none_is_none : is_list [] ≡ false
 unfolding is_list
@@ -39,11 +34,7 @@ refused w ws e = simp e
 
 unchanged : {S : Type 0} (n : ℕ) (v w : S) → leaves (or_else n no_list) v w ≡ w
 unfolding leaves or_else
-unchanged n v w = by_test (eqb n 0) refl
-  where
-    by_test : (t : Bool) → eqb n 0 ≡ t → leaves (or_else n no_list) v w ≡ w
-    by_test true e = simp e
-    by_test false e = simp e
+unchanged n v w = grind arith
 
 refused_leaves : (w : Table) (ws : List ℕ) → is_list ws ≡ false → ring_call_leaves w ws ≡ w
 unfolding ring_call_leaves

@@ -1,15 +1,16 @@
 -- The pairs of the first double-links: how they grow by one, and what is cut along the words of those that fit. Assumes
 -- nothing.
-use mathlib.Core.Path.{◌≡◌, refl, sym, subst, ap, ◌∙◌}
+use mathlib.Core.Path.{◌≡◌, refl, sym, ap, ◌∙◌}
 use mathlib.Core.Bool.{Bool, true, false, cond}
 use mathlib.Core.List.{List, [], ◌∷◌, map}
 use Rattle.std.proofs.Common.{flat_map}
 use Prim.Native.Nat.{ℕ, ◌+◌, ◌*◌, ◌<◌}
 use native.Mathlib.Omega.{arith}
-use lib.Dec.{T, ltb, ltb→lt}
+use lib.Dec.{ltb}
+use borrow.Author.Tests.{ltb-true}
 use lib.ListN.{length, get_or, take, set, length-set}
 use lib.Seq.{take-length}
-use Rattle.std.proofs.lemmas.List.{take_all, take_more, take_more_set, map-append}
+use Rattle.std.proofs.lemmas.List.{take_all, take_more, take_more_set, map-append, length-take-le}
 use Rattle.table.specs.Limits.{max_double_links, max_ring}
 use Rattle.table.specs.Layout.{Table}
 use Rattle.tape.specs.Steps.{cuts_ring}
@@ -67,10 +68,7 @@ fitted_same {X} f long_as ls = same (ltb max_double_links (length ls)) refl
     same :
         (t : Bool) → ltb max_double_links (length ls) ≡ t →
         f (words_of (take (cond t 0 (length ls)) ls)) ≡ f (words_of ls)
-    same true e = sym (long_as (words_of ls) (omega (arith, many, length_words ls)))
-      where
-        many : max_double_links < length ls
-        many = ltb→lt max_double_links (length ls) (subst T (sym e) tt)
+    same true e = sym (long_as (words_of ls) (omega (arith, ltb-true _ _ e, length_words ls)))
     same false e = ap (λ (ks : List DoubleLink). f (words_of ks)) (take-length ls)
 
 -- to cut along the words that fit is to cut along all
@@ -83,3 +81,7 @@ module _ (ws : List ℕ) (ls : List DoubleLink) (e : ws ≡ words_of (take (fitt
 
   pub fitted_reply : (s : State) → perform_reply s (cuts_ring ws) ≡ perform_reply s (cuts_ring (words_of ls))
   fitted_reply s = rw e (fitted_same (λ us. perform_reply s (cuts_ring us)) (journaled_long_as_none s) ls)
+
+pub ruleset copying = (length-take-le, copied_none, copied_on, copied_words)
+
+pub ruleset fitting = (fitted_refusal, fitted_leaves, fitted_reply)

@@ -8,6 +8,7 @@ use crate::DoubleLink;
 use table::limits::MAX_DOUBLE_LINKS;
 
 // How many of n double-links are copied: all, or none where they are too many.
+#[tactic(auto, unfolding(crate::specs::Records::fitted))]
 fn fit(n: usize) -> usize
     ensures value { result ≡ fitted n }
     ensures few { result ≤ max_double_links }
@@ -17,10 +18,13 @@ fn fit(n: usize) -> usize
 }
 
 // The words of the double-links that fit, at the front of the pairs.
+#[tactic(auto, using(crate::proofs::Words::copying))]
 pub fn flatten<'a>(ring: &[DoubleLink], pairs: &'a mut [[u16; 2]; MAX_DOUBLE_LINKS]) -> &'a [u16]
     ensures { result.now ≡ words_of (take (fitted (length ring.now)) ring.now) }
 {
     let n = fit(ring.len());
+    // By index: with `pairs.iter_mut().zip(..)` the pairs are lent during the loop, so that its invariant cannot name
+    // them. That was tried, and the proof did not close.
     for (k, link) in ring[..n].iter().enumerate() {
         pairs[k] = [link.first, link.second];
     }

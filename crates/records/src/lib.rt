@@ -24,15 +24,18 @@ pub struct DoubleLink {
 }
 
 // The break along a ring: what `ring_cut` answers and leaves for its words.
+#[tactic(auto, using(crate::proofs::Words::fitting))]
 pub fn ring_cut_records(table: &mut [u16], ring: &[DoubleLink]) -> Result<(), Refusal>
     ensures value { reply result ≡ ring_call_refusal table.old (words_of ring.now) }
     ensures table { table.new ≡ ring_call_leaves table.old (words_of ring.now) }
 {
-    let mut pairs = [[0; 2]; MAX_DOUBLE_LINKS];
+    let mut pairs = [[0; 2]; MAX_DOUBLE_LINKS]; // fixed memory: no heap
     ring_cut(table, flatten(ring, &mut pairs))
 }
 
-// The same with a journal: what `journal_calls::ring_cut` answers and leaves for its words.
+// The same with a journal: what `journal_calls::ring_cut` answers and leaves for its words. The bodies differ in the
+// call inside alone: one function for both would take it as a closure, and its contract would have to speak of it.
+#[tactic(auto, using(crate::proofs::Words::fitting))]
 pub fn journal_ring_cut_records(
     table: &mut [u16],
     journal: &mut [u16],
@@ -44,6 +47,6 @@ pub fn journal_ring_cut_records(
     ensures state { state_of table.new journal.new head.new ≡
         (perform_reply (state_of table.old journal.old head.old) (cuts_ring (words_of ring.now))).state }
 {
-    let mut pairs = [[0; 2]; MAX_DOUBLE_LINKS];
+    let mut pairs = [[0; 2]; MAX_DOUBLE_LINKS]; // fixed memory: no heap
     journal_calls::ring_cut(table, journal, head, flatten(ring, &mut pairs))
 }

@@ -2,7 +2,7 @@
 -- are definitions.
 use Rattle.std.specs.Prelude.{◌≡◌, Bool, true, List, [], ◌∷◌, ℕ, ◌≤◌, eqb, length, get_or, map}
 use Rattle.hypermap.specs.Lists.{all}
-use Rattle.hypermap.specs.Hypermap.{Kind, face, same_orbit, same_edge}
+use Rattle.hypermap.specs.Hypermap.{edge, Kind, of, face, same_orbit}
 use Rattle.hypermap.specs.Ring.{DoubleLink, no_two}
 use Rattle.table.specs.Limits.{max_capacity}
 use Rattle.table.specs.Layout.{Table, capacity, is_present, holds_hypermap, hypermap_of}
@@ -30,7 +30,8 @@ pub record Present (w : Table) (l : DoubleLink) : Type 0 where
   pub first : is_present w l.first ≡ true
   pub second : is_present w l.second ≡ true
 
--- double-links of darts, in a table within the capacity, and a mark for each number
+-- double-links of darts, in a table within the capacity, and a mark for each number. Four functions take the three
+-- apart: a struct of them would be made once, and each contract would have to say besides that it holds the same marks
 pub record LinksMarking (w : Table) (ls : List DoubleLink) (marks : List ℕ) : Type 0 where
   pub hypermap : holds_hypermap w ≡ true
   pub room : capacity w ≤ max_capacity
@@ -47,11 +48,16 @@ FirstsMarked w c ls m =
     Each (λ l. (y : ℕ) → is_present w y ≡ true →
     eqb (mark_at m y) l.first ≡ same_orbit (hypermap_of w) c l.first y) ls
 
--- the mark of each first dart is the mark of the darts in its edge, and of no other dart
-unfoldable pub FirstsTell : Table → List DoubleLink → (marks : List ℕ) → Type 0
-FirstsTell w ls m =
+-- the mark of each first dart is the mark of the darts in its orbit, and of no other dart
+unfoldable pub FirstsTell : Table → Kind → List DoubleLink → (marks : List ℕ) → Type 0
+FirstsTell w c ls m =
     Each (λ l. (y : ℕ) → is_present w y ≡ true →
-    eqb (mark_at m l.first) (mark_at m y) ≡ same_edge (hypermap_of w) l.first y) ls
+    eqb (mark_at m y) (mark_at m l.first) ≡ same_orbit (hypermap_of w) c l.first y) ls
+
+-- what the pairs are judged by
+pub record EdgesMarked (w : Table) (ls : List DoubleLink) (marks : List ℕ) : Type 0 where
+  pub marking : LinksMarking w ls marks
+  pub tell : FirstsTell w (of edge) ls marks
 
 -- what the path is judged by
 pub record PathMarked (w : Table) (ls : List DoubleLink) (marks : List ℕ) : Type 0 where

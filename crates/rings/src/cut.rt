@@ -1,4 +1,4 @@
-// The break of Definition 2.8: the change of each double-link in turn, where the ring is accepted.
+// The break of document 002, Definition 2.8: the change of each double-link in turn, where the ring is accepted.
 ghost use Rattle.std.specs.Prelude.{◌≡◌};
 ghost use Rattle.table.specs.Inner.{WithinCapacity};
 ghost use Rattle.table.specs.Replies.{reply};
@@ -19,7 +19,10 @@ pub fn cut_along(table: &mut [u16], ring: &[u16])
     }
 }
 
-// Cuts along the ring where it is accepted.
+// Cuts along the ring where it is accepted. Never inlined: the code of rings, and its frame, stay out of the loop over
+// a tape's commands.
+#[inline(never)]
+#[tactic(auto, unfolding(crate::specs::Rings::ring_leaves, table::specs::Commands::leaves))]
 pub fn cut_ring(table: &mut [u16], ring: &[u16]) -> Result<(), Refusal>
     requires { WithinCapacity table.old }
     ensures value { reply result ≡ ring_refusal table.old ring.now }

@@ -25,6 +25,7 @@ fn tell_put(rt: &impl Print, table: &mut [u16], x: u32) -> io::Result<()> {
 }
 
 fn tell_join(rt: &impl Print, table: &mut [u16], d: Dimension, a: u32, b: u32) -> io::Result<()> {
+    // A match: the words are literals of `print!`.
     match d {
         Dimension::Edge => print!(rt; "tie join {a} {b}")?,
         Dimension::Vertex => print!(rt; "cell join {a} {b}")?,
@@ -49,29 +50,18 @@ fn tell_look(rt: &impl Print, table: &[u16], x: u32) -> io::Result<()> {
     println!(rt)
 }
 
-// The ring, lent as a slice of records.
-fn cut(table: &mut [u16], ring: [DoubleLink; 2]) -> Result<(), Refusal> {
-    ring_cut_records(table, &ring)
-}
-
-fn tell_cut(rt: &impl Print, table: &mut [u16], a: u16, b: u16, c: u16, d: u16) -> io::Result<()> {
-    print!(rt; "ring {a} {b} {c} {d}")?;
-    let first = DoubleLink {
-        first: a,
-        second: b,
-    };
-    let second = DoubleLink {
-        first: c,
-        second: d,
-    };
-    write_answer(rt, cut(table, [first, second]))
+fn tell_cut(rt: &impl Print, table: &mut [u16], ring: [DoubleLink; 2]) -> io::Result<()> {
+    print!(rt; "ring")?;
+    for link in &ring {
+        print!(rt; " {} {}", link.first, link.second)?;
+    }
+    write_answer(rt, ring_cut_records(table, &ring))
 }
 
 fn build_square(rt: &impl Print, table: &mut [u16]) -> io::Result<()> {
-    tell_put(rt, table, 1)?;
-    tell_put(rt, table, 2)?;
-    tell_put(rt, table, 3)?;
-    tell_put(rt, table, 4)?;
+    for x in 1..=4 {
+        tell_put(rt, table, x)?;
+    }
     tell_join(rt, table, Dimension::Edge, 1, 2)?;
     tell_join(rt, table, Dimension::Edge, 3, 4)?;
     tell_join(rt, table, Dimension::Vertex, 1, 3)?;
@@ -79,43 +69,46 @@ fn build_square(rt: &impl Print, table: &mut [u16]) -> io::Result<()> {
 }
 
 fn look_at_all(rt: &impl Print, table: &[u16]) -> io::Result<()> {
-    tell_look(rt, table, 1)?;
-    tell_look(rt, table, 2)?;
-    tell_look(rt, table, 3)?;
-    tell_look(rt, table, 4)?;
-    tell_look(rt, table, 5)?;
-    tell_look(rt, table, 6)?;
-    tell_look(rt, table, 0)
+    for x in [1, 2, 3, 4, 5, 6, 0] {
+        tell_look(rt, table, x)?;
+    }
+    Ok(())
+}
+
+fn link(first: u16, second: u16) -> DoubleLink {
+    DoubleLink { first, second }
+}
+
+// The ring of the square.
+fn square_ring() -> [DoubleLink; 2] {
+    [link(1, 2), link(3, 4)]
 }
 
 // Lists that are no rings of the square, by the rising number of their refusals.
 fn cut_refused(rt: &impl Print, table: &mut [u16]) -> io::Result<()> {
-    tell_cut(rt, table, 1, 2, 3, 6)?;
-    tell_cut(rt, table, 1, 2, 3, 5)?;
-    tell_cut(rt, table, 1, 3, 2, 4)?;
-    tell_cut(rt, table, 1, 1, 3, 4)?;
-    tell_cut(rt, table, 1, 2, 2, 1)?;
-    tell_cut(rt, table, 1, 2, 4, 3)
+    let rings = [
+        [link(1, 2), link(3, 6)],
+        [link(1, 2), link(3, 5)],
+        [link(1, 3), link(2, 4)],
+        [link(1, 1), link(3, 4)],
+        [link(1, 2), link(2, 1)],
+        [link(1, 2), link(4, 3)],
+    ];
+    for ring in rings {
+        tell_cut(rt, table, ring)?;
+    }
+    Ok(())
 }
 
-fn refuse_wrong_size(rt: &impl Print) -> io::Result<()> {
-    let mut table = [0u16; 3];
-    println!(rt; "a table of 3 words")?;
-    tell_look(rt, &table, 1)?;
-    tell_cut(rt, &mut table, 1, 2, 3, 4)
-}
-
-// Dart 1 is its own successor but not its own predecessor.
-fn refuse_bent(rt: &impl Print) -> io::Result<()> {
-    let mut table = [0u16; WORDS_PER_DART];
-    table[0] = 1;
-    println!(rt; "a bent table")?;
-    tell_look(rt, &table, 1)?;
-    tell_cut(rt, &mut table, 1, 2, 3, 4)
+// A look at a table that each call refuses, and a ring cut in it.
+fn try_refused_table(rt: &impl Print, title: &str, table: &mut [u16]) -> io::Result<()> {
+    println!(rt; "{title}")?;
+    tell_look(rt, table, 1)?;
+    tell_cut(rt, table, square_ring())
 }
 
 fn main(rt: HostRuntime) -> io::Result<()> {
-    let mut table = [0u16; WORDS];
+    let mut table = [0u16; WORDS]; // fixed memory: no heap
     println!(rt; "the square")?;
     build_square(&rt, &mut table)?;
     look_at_all(&rt, &table)?;
@@ -123,9 +116,13 @@ fn main(rt: HostRuntime) -> io::Result<()> {
     cut_refused(&rt, &mut table)?;
     look_at_all(&rt, &table)?;
     println!(rt; "the ring of the square, twice")?;
-    tell_cut(&rt, &mut table, 1, 2, 3, 4)?;
+    tell_cut(&rt, &mut table, square_ring())?;
     look_at_all(&rt, &table)?;
-    tell_cut(&rt, &mut table, 1, 2, 3, 4)?;
-    refuse_wrong_size(&rt)?;
-    refuse_bent(&rt)
+    tell_cut(&rt, &mut table, square_ring())?;
+    let mut short = [0u16; 3]; // fixed memory: no heap
+    try_refused_table(&rt, "a table of 3 words", &mut short)?;
+    // Dart 1 is its own successor but not its own predecessor.
+    let mut bent = [0u16; WORDS_PER_DART]; // fixed memory: no heap
+    bent[0] = 1;
+    try_refused_table(&rt, "a bent table", &mut bent)
 }

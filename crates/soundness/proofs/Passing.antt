@@ -69,3 +69,13 @@ pub tape_passed : (bs : List ℕ) → tape_refusal bs ≡ 0 → length bs ≤ ma
 unfolding tape_refusal
 tape_passed bs e =
     leb-true (length bs) max_tape (fitting (leb (length bs) max_tape) wrong_size (omega arith) e)
+
+-- WHAT THE CHECK TRIES BY ITSELF on what has passed. It takes a lemma up at the first term of what it says, so these
+-- say that term first
+pub table_judged : (w : Table) → table_refusal w ≡ 0 → (table_refusal w ≡ 0) × WithinCapacity w
+table_judged w e = (e, table_within w e)
+
+pub tape_judged : (bs : List ℕ) → tape_refusal bs ≡ 0 → (tape_refusal bs ≡ 0) × (length bs ≤ max_tape)
+tape_judged bs e = (e, tape_passed bs e)
+
+pub ruleset passing = (table_judged, tape_judged)

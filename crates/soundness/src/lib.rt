@@ -11,12 +11,14 @@ use table::hypermap_test::holds_hypermap;
 use table::limits::{MAX_TAPE, MAX_WORDS, WORDS_PER_DART};
 use table::refusals::Refusal;
 
+#[tactic(auto, unfolding(crate::specs::Soundness::size_fits))]
 fn size_fits(table: &[u16]) -> bool
     ensures { result ≡ size_fits table.now }
 {
     (table.len() % WORDS_PER_DART == 0) & (table.len() <= MAX_WORDS)
 }
 
+#[tactic(auto, using(crate::proofs::Passing::size_room), unfolding(crate::specs::Soundness::is_sound))]
 fn is_sound(table: &[u16]) -> bool
     requires { size_fits table.now ≡ true }
     ensures { result ≡ is_sound table.now }
@@ -24,7 +26,9 @@ fn is_sound(table: &[u16]) -> bool
     holds_hypermap(table)
 }
 
-// 1 for a wrong size, 2 for a table that is not sound.
+// 1 for a wrong size, 2 for a table that is not sound. Never inlined: a table is judged once a call, and out of line
+// the loop is compiled once and takes 0.86 of the time (docs/DECISIONS.md, "Hints on inlining").
+#[tactic(auto, using(table::proofs::Stages::stages), unfolding(crate::specs::Soundness::table_refusal))]
 #[inline(never)]
 pub fn judge_table(table: &[u16]) -> Result<(), Refusal>
     ensures { reply result ≡ table_refusal table.now }
@@ -39,6 +43,7 @@ pub fn judge_table(table: &[u16]) -> Result<(), Refusal>
 }
 
 // 1 for a tape that is too long.
+#[tactic(auto, using(table::proofs::Stages::stages), unfolding(crate::specs::Soundness::tape_refusal))]
 pub fn judge_tape(tape: &[u8]) -> Result<(), Refusal>
     ensures { reply result ≡ tape_refusal tape.now }
 {

@@ -1,9 +1,7 @@
 -- A walk forward from one dart and a walk back from another, a step each in turn: their first meeting tells how far the
 -- second dart is from the first, and if one comes home before, the darts are in different orbits. Assumes nothing.
-use Rattle.std.proofs.Common.{◌≡◌, ℕ, suc, ◌+◌, ◌<◌, ◌≤◌, true, false, ltb, ◌↔◌, sym, refl, ap, ◌∙◌, add-one, arith}
-use Rattle.std.proofs.Common.{ltb-false, ltb-true, Bool, Some, None}
-use Rattle.std.specs.Bool.{then_some}
-use Rattle.std.specs.Option.{is_some}
+use Rattle.std.proofs.Common.{◌≡◌, ℕ, suc, ◌+◌, ◌<◌, ◌≤◌, true, ltb, ◌↔◌, sym, refl, ap, ◌∙◌, add-one, arith}
+use Rattle.std.proofs.Common.{ltb-false, ltb-true, Some, None}
 use Rattle.hypermap.specs.Hypermap.{is_hypermap, Kind, step, step_back}
 use Rattle.hypermap.specs.Laws.{iterate}
 use Rattle.hypermap.proofs.Basics.Bools.{by_cases}
@@ -134,8 +132,3 @@ module _ {w : Table} {c : Kind} {a b x y n : ℕ} (s : WithinCapacityAtBoth w a 
         walk = rw (add-one) at (walks_on g.walk (first s) f h);
         nears = whole;
       }
-
--- whether a number that stands under a test is there
-pub some_where : {A : Type 0} (t : Bool) (x : A) → is_some (then_some t x) ≡ t
-some_where true x = refl
-some_where false x = refl

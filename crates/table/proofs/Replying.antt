@@ -1,11 +1,11 @@
 -- How a reply follows from the stages of code: one that stops with a refusal, and one that goes on. Assumes nothing.
-use Rattle.std.proofs.Common.{◌≡◌, ℕ, Bool, true, false, not, Result, Ok, Err, sym, ◌∙◌, refl, arith}
+use Rattle.std.proofs.Common.{◌≡◌, ℕ, Bool, true, false, Result, Ok, Err, sym, ◌∙◌, refl, arith}
 use Rattle.std.specs.Result.{IsErrAnd, result_and}
 use Rattle.std.proofs.lemmas.Result.{err_from_is_err_and}
 use Rattle.table.specs.Refusals.{or_else, unless}
 use Rattle.table.specs.Replies.{number, reply}
 use Rattle.table.specs.declared.refusals.Refusal.{Refusal}
-use Rattle.table.proofs.Stages.{passed, refused_first, refused_second}
+use Rattle.table.proofs.Stages.{refused_first, refused_second}
 use borrow.Author.Tests.{ne_eqb}
 
 -- no refusal has the number 0
@@ -21,20 +21,7 @@ pub holds : (r t : Bool) (n : ℕ) → r ≡ t → r ≡ true → 0 ≡ unless t
 unfolding unless
 holds r t n e f = rw (sym e ∙ f)
 
--- and by a test that must not hold
-pub denied : (r t : Bool) (n : ℕ) → r ≡ t → r ≡ true → n ≡ unless (not t) n
-unfolding unless
-denied r t n e f = rw (sym e ∙ f)
-
-pub free : (r t : Bool) (n : ℕ) → r ≡ t → r ≡ false → 0 ≡ unless (not t) n
-unfolding unless
-free r t n e f = rw (sym e ∙ f)
-
--- the exit of a `?`: what stopped the first stage is the answer
-pub left_by : {A E : Type 0} (r : Result A E) (d : E) → IsErrAnd r (λ y. y ≡ d) → r ≡ Err d
-left_by r d q = let p = err_from_is_err_and r q in rw (p.1, p.2)
-
--- and the reply
+-- the exit of a `?`: what stopped the first stage is the reply
 pub stops :
     {A : Type 0} (r : Result A Refusal) (d : Refusal) (n m : ℕ) → IsErrAnd r (λ y. y ≡ d) → number d ≡ n →
     reply r ≡ or_else n m
@@ -67,6 +54,3 @@ module _
 
   pub last_accepts : (x : B) → t ≡ Ok x → 0 ≡ or_else n (reply s)
   last_accepts x p = rw p at last_reply
-
-  pub first_accepts : (x : B) → t ≡ Ok x → n ≡ 0
-  first_accepts x p = (passed n (reply s) (sym (last_accepts x p))).0

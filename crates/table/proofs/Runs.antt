@@ -92,9 +92,6 @@ module _ {S : Type 0} where
   abbrev pub later : (k : ℕ) → Outcome S → Outcome S
   later k o = record { number = o.number; accepted = k + o.accepted; state = o.state }
 
-  pub later_none : (o : Outcome S) → o ≡ later 0 o
-  later_none o = let z : 0 + o.accepted ≡ o.accepted = omega arith in rw z
-
   pub later_one : (k : ℕ) (o : Outcome S) → later k (one_more o) ≡ later (k + 1) o
   later_one k o = let z : k + suc o.accepted ≡ k + 1 + o.accepted = omega arith in rw z
 

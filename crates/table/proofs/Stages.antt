@@ -1,13 +1,13 @@
 -- Refusals in order: what a refusal of 0 says of each stage, and how the stages of code put together give a
 -- definition's. Assumes nothing.
-use Rattle.std.proofs.Common.{◌≡◌, ℕ, ◌<◌, Bool, true, false, ◌&&◌, eqb, ltb, List, [], ◌∷◌, sym, refl, ap, ◌∙◌, ap₂}
+use Rattle.std.proofs.Common.{◌≡◌, ℕ, ◌<◌, Bool, true, false, cond, ◌&&◌, eqb, List, [], ◌∷◌, sym, refl, ap, ◌∙◌}
 use Rattle.std.proofs.Common.{arith, eq-eqb, ne_eqb, eqb-true}
 use borrow.Author.Tests.{eqb-false}
 use Rattle.hypermap.specs.Lists.{all}
-use Rattle.hypermap.proofs.Basics.Bools.{by_cases, and_left, and_right}
+use Rattle.hypermap.proofs.Basics.Bools.{by_cases, and_left}
 use Rattle.hypermap.proofs.Basics.Lists.{Mem, mem_head, mem_tail, all_mem, mem_all}
 use Rattle.table.specs.Refusals.{or_else, unless, off_the_table, no_tab}
-use Rattle.table.specs.Layout.{Table, word_at, is_number, is_present}
+use Rattle.table.specs.Layout.{Table, is_number, is_present}
 use Rattle.table.specs.Commands.{presence_refusal, leaves}
 
 -- 0 of both stages
@@ -48,30 +48,18 @@ and_all : (t : Bool) → (t && true) ≡ t
 and_all true = refl
 and_all false = refl
 
-pub one_refusal :
+pub one_presence :
     (w : Table) (x : ℕ) →
-    or_else (unless (is_number w x) off_the_table) (unless (is_present w x) no_tab) ≡ presence_refusal w (x ∷ [])
+    presence_refusal w (x ∷ []) ≡ or_else (unless (is_number w x) off_the_table) (unless (is_present w x) no_tab)
 unfolding presence_refusal all
-one_refusal w x = cc (and_all (is_number w x), and_all (is_present w x))
+one_presence w x = cc (and_all (is_number w x), and_all (is_present w x))
 
-pub two_refusal :
+pub two_presence :
     (w : Table) (a b : ℕ) →
-    or_else (unless (is_number w a && is_number w b) off_the_table) (unless (is_present w a && is_present w b) no_tab) ≡
-    presence_refusal w (a ∷ b ∷ [])
+    presence_refusal w (a ∷ b ∷ []) ≡
+    or_else (unless (is_number w a && is_number w b) off_the_table) (unless (is_present w a && is_present w b) no_tab)
 unfolding presence_refusal all
-two_refusal w a b = cc (and_all (is_number w b), and_all (is_present w b))
-
--- the same in stages: both numbers, then both words
-module _ (w : Table) (a b : ℕ) {r q : Bool} (e : r ≡ is_number w a) (f : q ≡ is_number w b) where
-  pub two_off : (r && q) ≡ false → off_the_table ≡ presence_refusal w (a ∷ b ∷ [])
-  two_off h = stage_stop _ _ _ _ (omega arith) (ap₂ ◌&&◌ e f) h ∙ two_refusal w a b
-
-  pub two_on :
-      (r && q) ≡ true → (n : ℕ) → n ≡ unless (ltb 0 (word_at w a 0) && ltb 0 (word_at w b 0)) no_tab →
-      n ≡ presence_refusal w (a ∷ b ∷ [])
-  unfolding is_present
-  two_on h n g =
-      stage_on _ _ _ _ _ (ap₂ ◌&&◌ e f) h (rw (sym e ∙ and_left r q h, sym f ∙ and_right r q h) g) ∙ two_refusal w a b
+two_presence w a b = cc (and_all (is_number w b), and_all (is_present w b))
 
 pub all_present : (w : Table) (xs : List ℕ) → presence_refusal w xs ≡ 0 → all (is_present w) xs ≡ true
 unfolding presence_refusal
@@ -116,3 +104,18 @@ refused n r v w e z = rw (ne_eqb n 0 (λ q. z (e ∙ q)))
 pub made :
     {S : Type 0} (n m r : ℕ) (u v w : S) → m ≡ n → (r ≡ m) × (u ≡ leaves m v w) → (r ≡ n) × (u ≡ leaves n v w)
 made n m r u v w e p = (p.0 ∙ e, p.1 ∙ ap (λ i. leaves i v w) e)
+
+-- WHAT THE CHECK TRIES BY ITSELF on stages: their definitions, opened
+pub or_else_is : (n m : ℕ) → or_else n m ≡ cond (eqb n 0) m n
+unfolding or_else
+or_else_is n m = refl
+
+pub unless_is : (t : Bool) (n : ℕ) → unless t n ≡ cond t 0 n
+unfolding unless
+unless_is t n = refl
+
+pub leaves_is : {S : Type 0} (n : ℕ) (v w : S) → leaves n v w ≡ cond (eqb n 0) v w
+unfolding leaves
+leaves_is n v w = refl
+
+pub ruleset stages = (or_else_is, unless_is, leaves_is, alone, one_presence, two_presence)

@@ -1,5 +1,7 @@
 // A change of a table: whether it is refused, the words that it writes, and both in turn. Document 01's refusals 1 and
 // 2 are the caller's.
+#![tactic(auto, using(crate::proofs::Accepting::judging))]
+
 ghost use Rattle.std.specs.Prelude.{◌≡◌, [], ◌∷◌};
 ghost use Rattle.table.specs.Limits.{edge_next};
 ghost use Rattle.table.specs.Commands.{is_alone, is_together, presence_refusal, command_refusal, command_on};
@@ -12,24 +14,28 @@ ghost use Rattle.table.specs.Replies.{reply};
 use crate::limits::{EDGE_NEXT, VERTEX_NEXT};
 use crate::refusals::Refusal;
 use crate::words::to_word;
-use crate::{Change, Dimension, store, walk, words};
+use crate::{Change, Dimension, Orbit, store, walk, words};
+
+// A dimension and two darts are a `Change` above and arguments by themselves here: a struct of them would be taken
+// apart where it is made.
 
 // WHAT IS JUDGED
 
-// 3, then 4, of one dart.
+// Refusals 3 and then 4, of one dart.
 pub fn judge_dart(table: &[u16], x: u32) -> Result<(), Refusal>
     ensures { reply result ≡ presence_refusal table.now (x ∷ []) }
 {
     if !words::is_number(table, x) {
         return Err(Refusal::OffTheTable);
     }
-    if !words::is_present(table, x) {
+    if !words::is_dart(table, x) {
         return Err(Refusal::NoTab);
     }
     Ok(())
 }
 
-// 3 of both darts, then 4 of both.
+// Refusals 3 and then 4, each of both darts. One function for any number of darts is no plainer: it would have a loop
+// where two comparisons stand, and it stands in the loop over a tape's commands.
 pub fn judge_darts(table: &[u16], a: u32, b: u32) -> Result<(), Refusal>
     ensures { reply result ≡ presence_refusal table.now (a ∷ b ∷ []) }
 {
@@ -55,18 +61,20 @@ fn are_together(table: &[u16], d: Dimension, a: u32, b: u32) -> bool
     requires { WithinCapacityAtBoth table.now a b }
     ensures { result ≡ is_together table.now (dimension_of d) a b }
 {
-    walk::distance(table, walk::orbit_of(d), to_word(a), to_word(b)).is_some()
+    walk::distance(table, Orbit::from(d), to_word(a), to_word(b)).is_some()
 }
 
 // WHETHER A CHANGE IS REFUSED
 
+// Refusals 3 and then 5. One function with `judge_dart`, given what is wanted and what is refused, is no plainer: 29
+// lines for 21.
 pub fn judge_put(table: &[u16], x: u32) -> Result<(), Refusal>
     ensures { reply result ≡ command_refusal table.now (puts x) }
 {
     if !words::is_number(table, x) {
         return Err(Refusal::OffTheTable);
     }
-    if words::is_present(table, x) {
+    if words::is_dart(table, x) {
         return Err(Refusal::TabTaken);
     }
     Ok(())
@@ -124,8 +132,9 @@ fn write_swap(table: &mut [u16], d: Dimension, a: u32, b: u32)
     store::swap(table, d, to_word(a), to_word(b));
 }
 
-// BOTH IN TURN. It goes by arms, in which the dimension is known, and into the loop of a run; so what a caller has to
-// say after the change's own refusals comes along.
+// BOTH IN TURN: a change is judged, and then its words are written. `last` is what the caller answers after the
+// change's own refusals; where that is an error, nothing is written. It is an argument, since each arm, in which the
+// dimension is known, judges and writes by itself.
 
 #[inline(always)]
 pub fn perform_with(
@@ -139,6 +148,7 @@ pub fn perform_with(
         (or_else (command_refusal table.old (command_for change)) (reply last))
         (command_on table.old (command_for change)) table.old }
 {
+    // By arms, in which the dimension is a constant: docs/DECISIONS.md, "A change as a value".
     match change {
         Change::Put(x) => {
             judge_put(table, x).and(last)?;

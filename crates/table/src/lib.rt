@@ -30,6 +30,22 @@ pub enum Orbit {
     Face,
 }
 
+// The orbits of a dimension.
+impl From<Dimension> for Orbit {
+    ghost use Rattle.hypermap.specs.Hypermap.{of};
+    ghost use Rattle.table.specs.Inner.{dimension_of, kind_of};
+
+    ghost from_gives = { λ d orbit. kind_of orbit ≡ of (dimension_of d) };
+
+    fn from(d: Dimension) -> Orbit {
+        // A match: one value for each variant.
+        match d {
+            Dimension::Edge => Orbit::Edge,
+            Dimension::Vertex => Orbit::Vertex,
+        }
+    }
+}
+
 // A change of a table: a variant for each command byte that changes one, so that the dimension is known in its arm.
 // Numbers come from outside, in 32 bits; whether they name darts is judged before they become words.
 #[derive(Clone, Copy)]

@@ -39,6 +39,7 @@ pub const WORDS_PER_ENTRY: usize = 3;
 
 pub const MAX_ENTRIES: usize = 4294967294;
 
+// A number and no `Option`: a checkpoint is a `u32` in the head that C brings.
 pub const UNSET: u32 = 4294967295;
 
 pub const CHECKPOINTS: usize = 16;

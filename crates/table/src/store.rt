@@ -5,9 +5,11 @@ ghost use Rattle.table.specs.Limits.{edge_next};
 ghost use Rattle.table.specs.Inner.{InTable, HypermapAtBoth, dimension_of};
 
 use crate::limits::{EDGE_BACK, EDGE_NEXT, VERTEX_BACK, VERTEX_NEXT};
+use crate::words::{BACK, NEXT};
 use crate::{Dimension, words};
 
 // The four words of dart x.
+#[tactic(auto, unfolding(crate::specs::Commands::with_all))]
 pub fn set_all(table: &mut [u16], x: u16, value: u16)
     requires { InTable table.old x edge_next }
     ensures { table.new ≡ with_all x value table.old }
@@ -19,12 +21,13 @@ pub fn set_all(table: &mut [u16], x: u16, value: u16)
 }
 
 // The change of Definition 2.8: a join or a cut.
+#[tactic(auto, using(crate::proofs::Reading::reads), unfolding(crate::specs::Commands::swapped))]
 pub fn swap(table: &mut [u16], d: Dimension, a: u16, b: u16)
     requires { HypermapAtBoth table.old a b }
     ensures { table.new ≡ swapped (dimension_of d) a b table.old }
 {
-    let next = words::next_word(d);
-    let back = words::back_word(d);
+    let next = words::neighbour_word::<NEXT>(d);
+    let back = words::neighbour_word::<BACK>(d);
     let before_a = words::word(table, a, back);
     let before_b = words::word(table, b, back);
     words::set_word(table, a, back, before_b);

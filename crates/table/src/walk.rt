@@ -1,73 +1,61 @@
 // Walks from dart to dart of a table that holds a hypermap. A walk needs no counter to end: by the law of orbits it
 // comes home. One that counts its steps counts in 16 bits: no orbit passes the capacity, nor has as many darts as a
-// word has values.
-ghost use Rattle.std.specs.Prelude.{◌≡◌, ◌++◌, length, drop};
-ghost use Rattle.hypermap.specs.Hypermap.{of, step as step_of, step_back, orbit_of};
-ghost use Rattle.table.specs.Layout.{word_at, next_word, hypermap_of};
+// word has values. Table, orbit and dart are what a walk is asked for, and so are arguments: a struct of them would be
+// made for one call.
+#![tactic(auto, using(crate::proofs::Walking::walks))]
+
+ghost use Rattle.std.specs.Prelude.{◌≡◌, cond, ◌++◌, length, drop};
+ghost use Rattle.hypermap.specs.Hypermap.{step as step_of, step_back, orbit_of};
+ghost use Rattle.table.specs.Layout.{word_at, next_word, back_word, hypermap_of};
 ghost use Rattle.table.specs.Inner.{HypermapAt, RoomForOrbit, WithinCapacityAtBoth, dimension_of, kind_of};
 ghost use Rattle.table.specs.Inner.{distance_found};
 
-use crate::limits::{EDGE_BACK, EDGE_NEXT, VERTEX_BACK, VERTEX_NEXT};
-use crate::words::{next_word, word};
+use crate::words::{BACK, NEXT, neighbour_word, word};
 use crate::{Dimension, Orbit};
 
-// The successor of a dart.
-pub fn next(table: &[u16], d: Dimension, x: u16) -> u16
+// The successor of a dart, or its predecessor: a dart too.
+pub fn neighbour<const WAY: bool>(table: &[u16], d: Dimension, x: u16) -> u16
     requires { HypermapAt table.now x }
-    ensures { result ≡ word_at table.now x (next_word (dimension_of d)) }
+    ensures value { result ≡ word_at table.now x (cond WAY (back_word (dimension_of d)) (next_word (dimension_of d))) }
+    ensures there { HypermapAt table.now result }
 {
-    word(table, x, next_word(d))
+    word(table, x, neighbour_word::<WAY>(d))
 }
 
-// The orbits of a dimension.
-pub fn orbit_of(d: Dimension) -> Orbit
-    ensures { kind_of result ≡ of (dimension_of d) }
+// The step of an orbit, or the step back. Of a face: the edge predecessor, and then its vertex predecessor.
+pub fn step<const WAY: bool>(table: &[u16], orbit: Orbit, x: u16) -> u16
+    requires { HypermapAt table.now x }
+    ensures { result ≡ cond WAY (step_back (hypermap_of table.now) (kind_of orbit) x)
+        (step_of (hypermap_of table.now) (kind_of orbit) x) }
 {
-    match d {
-        Dimension::Edge => Orbit::Edge,
-        Dimension::Vertex => Orbit::Vertex,
+    match (orbit, WAY) {
+        (Orbit::Edge, _) => neighbour::<WAY>(table, Dimension::Edge, x),
+        (Orbit::Vertex, _) => neighbour::<WAY>(table, Dimension::Vertex, x),
+        (Orbit::Face, NEXT) => {
+            let y = neighbour::<BACK>(table, Dimension::Edge, x);
+            neighbour::<BACK>(table, Dimension::Vertex, y)
+        }
+        (Orbit::Face, BACK) => {
+            let y = neighbour::<NEXT>(table, Dimension::Vertex, x);
+            neighbour::<NEXT>(table, Dimension::Edge, y)
+        }
     }
 }
 
-// The step of an orbit. Of a face: the edge predecessor, and then its vertex predecessor.
-pub fn step(table: &[u16], orbit: Orbit, x: u16) -> u16
-    requires { HypermapAt table.now x }
-    ensures { result ≡ step_of (hypermap_of table.now) (kind_of orbit) x }
-{
-    match orbit {
-        Orbit::Edge => word(table, x, EDGE_NEXT),
-        Orbit::Vertex => word(table, x, VERTEX_NEXT),
-        Orbit::Face => word(table, word(table, x, EDGE_BACK), VERTEX_BACK),
-    }
-}
-
-// The step back, against the orbit.
-pub fn step_back(table: &[u16], orbit: Orbit, x: u16) -> u16
-    requires { HypermapAt table.now x }
-    ensures { result ≡ step_back (hypermap_of table.now) (kind_of orbit) x }
-{
-    match orbit {
-        Orbit::Edge => word(table, x, EDGE_BACK),
-        Orbit::Vertex => word(table, x, VERTEX_BACK),
-        Orbit::Face => word(table, word(table, x, VERTEX_NEXT), EDGE_NEXT),
-    }
-}
-
-// The number of darts of an orbit.
-pub fn orbit_length(table: &[u16], orbit: Orbit, x: u16) -> u32
+// The number of darts of an orbit. A loop that yields its count by `break` is document 01's form.
+pub fn orbit_length(table: &[u16], orbit: Orbit, x: u16) -> u16
     requires { HypermapAt table.now x }
     ensures { result ≡ length (orbit_of (hypermap_of table.now) (kind_of orbit) x) }
 {
     let mut at = x;
     let mut steps: u16 = 0;
-    let count = loop {
-        at = step(table, orbit, at);
+    loop {
+        at = step::<NEXT>(table, orbit, at);
         steps += 1;
         if at == x {
             break steps;
         }
-    };
-    count as u32
+    }
 }
 
 // Writes an orbit to the front of out, in walking order.
@@ -77,11 +65,9 @@ pub fn write_orbit(table: &[u16], orbit: Orbit, x: u16, out: &mut [u16])
         drop (length (orbit_of (hypermap_of table.now) (kind_of orbit) x)) out.old }
 {
     let mut at = x;
-    let mut written: u16 = 0;
-    loop {
-        out[written as usize] = at;
-        written += 1;
-        at = step(table, orbit, at);
+    for word in out.iter_mut() {
+        *word = at;
+        at = step::<NEXT>(table, orbit, at);
         if at == x {
             return;
         }
@@ -90,9 +76,10 @@ pub fn write_orbit(table: &[u16], orbit: Orbit, x: u16, out: &mut [u16])
 
 // How far b is from a round an orbit, None where b is not in it. One walk goes forward from a and one back from b, a
 // step each in turn. After n steps in all they are at one dart exactly if n steps lead from a to b, so their first
-// meeting gives the distance. If one of them comes home first, b is not in the orbit of a, which costs no more than the
-// shorter orbit. The step back goes first, since on a canonical tape the second dart of a join is alone. Both walks
-// together make fewer steps than twice the capacity.
+// meeting gives the distance. If one of them comes home first, b is not in the orbit of a, and both together have made
+// at most twice as many steps as the shorter orbit has darts. The step back goes first, since on a canonical tape the
+// second dart of a join is alone. Both walks together make fewer steps than twice the capacity. A loop by hand: no
+// range has two walks in turn.
 pub fn distance(table: &[u16], orbit: Orbit, a: u16, b: u16) -> Option<u16>
     requires { WithinCapacityAtBoth table.now a b }
     ensures { result ≡ distance_found table.now (kind_of orbit) a b }
@@ -104,14 +91,14 @@ pub fn distance(table: &[u16], orbit: Orbit, a: u16, b: u16) -> Option<u16>
         if x == y {
             return Some(walked);
         }
-        y = step_back(table, orbit, y);
+        y = step::<BACK>(table, orbit, y);
         if y == b {
             return None;
         }
         if x == y {
             return Some(walked + 1);
         }
-        x = step(table, orbit, x);
+        x = step::<NEXT>(table, orbit, x);
         if x == a {
             return None;
         }

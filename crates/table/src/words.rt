@@ -1,6 +1,6 @@
 // The words of a table, read and written one at a time. A word that names a dart is a `u16`; a number from outside has
 // 32 bits, and becomes a word only where it is known to be small enough.
-ghost use Rattle.std.specs.Prelude.{◌≡◌, ◌+◌, ◌<◌, ◌≤◌, nat_lt};
+ghost use Rattle.std.specs.Prelude.{◌≡◌, cond, ◌+◌, ◌<◌, ◌≤◌, nat_lt};
 ghost use Rattle.table.specs.Limits.{words_per_dart, edge_next, max_word};
 ghost use Rattle.table.specs.Layout.{place, word_at, capacity, is_number, is_present, next_word, back_word};
 ghost use Rattle.table.specs.Commands.{with_word};
@@ -15,6 +15,7 @@ pub fn to_word(x: u32) -> u16
     requires { x ≤ max_word }
     ensures { result ≡ x }
 {
+    // `as`: `try_from` would add a branch that panics.
     x as u16
 }
 
@@ -31,39 +32,42 @@ pub fn numbers_end(table: &[u16]) -> u16
     requires { capacity table.now < max_word }
     ensures { result ≡ capacity table.now + 1 }
 {
+    // `as`: `try_from` would add a branch that panics.
     (capacity_of(table) + 1) as u16
 }
 
-// Where word i of dart x stands.
+// Where word i of dart x stands. The words lie flat, as C lends them.
 pub fn place_of(x: u32, i: usize) -> usize
     requires { (1 ≤ x) × (i < words_per_dart) }
     ensures { result ≡ place x i }
 {
+    // `as`: the library has no `From<u32>` for `usize`, and `try_from` would add a branch that panics.
     WORDS_PER_DART * (x as usize - 1) + i
 }
 
-pub fn next_word(d: Dimension) -> usize
-    ensures value { result ≡ next_word (dimension_of d) }
-    ensures small { result < words_per_dart }
-{
-    match d {
-        Dimension::Edge => EDGE_NEXT,
-        Dimension::Vertex => VERTEX_NEXT,
-    }
-}
+// The two ways round an orbit: to successors, and back to predecessors. A const parameter can only be a number or a
+// bool, so the two ways are bools.
+pub const NEXT: bool = false;
 
-pub fn back_word(d: Dimension) -> usize
-    ensures value { result ≡ back_word (dimension_of d) }
+pub const BACK: bool = true;
+
+// Where a dart's neighbour on that way stands among its words.
+pub fn neighbour_word<const WAY: bool>(d: Dimension) -> usize
+    ensures value { result ≡ cond WAY (back_word (dimension_of d)) (next_word (dimension_of d)) }
     ensures small { result < words_per_dart }
 {
-    match d {
-        Dimension::Edge => EDGE_BACK,
-        Dimension::Vertex => VERTEX_BACK,
+    match (d, WAY) {
+        (Dimension::Edge, NEXT) => EDGE_NEXT,
+        (Dimension::Edge, BACK) => EDGE_BACK,
+        (Dimension::Vertex, NEXT) => VERTEX_NEXT,
+        (Dimension::Vertex, BACK) => VERTEX_BACK,
     }
 }
 
 // WORDS
 
+// Reading and writing borrow differently; the place is computed once, by `place_of`.
+#[tactic(auto, unfolding(crate::specs::Layout::word_at))]
 pub fn word(table: &[u16], x: u16, i: usize) -> u16
     requires { InTable table.now x i }
     ensures { result ≡ word_at table.now x i }
@@ -72,6 +76,7 @@ pub fn word(table: &[u16], x: u16, i: usize) -> u16
     table[at]
 }
 
+#[tactic(auto, unfolding(crate::specs::Commands::with_word))]
 pub fn set_word(table: &mut [u16], x: u16, i: usize, value: u16)
     requires { InTable table.old x i }
     ensures { table.new ≡ with_word x i value table.old }
@@ -86,10 +91,12 @@ pub fn set_word(table: &mut [u16], x: u16, i: usize, value: u16)
 pub fn is_number(table: &[u16], x: u32) -> bool
     ensures { result ≡ is_number table.now x }
 {
+    // `as`: the library has no `From<u32>` for `usize`, and `try_from` would add a branch that panics.
     std::num::wrapping_sub_usize(x as usize, 1) < capacity_of(table)
 }
 
 // Whether number x of the table is a dart.
+#[tactic(auto, unfolding(crate::specs::Layout::word_at))]
 pub fn is_dart(table: &[u16], x: u32) -> bool
     requires { InTable table.now x edge_next }
     ensures { result ≡ nat_lt 0 (word_at table.now x edge_next) }
@@ -98,12 +105,9 @@ pub fn is_dart(table: &[u16], x: u32) -> bool
     0 < table[at]
 }
 
+#[tactic(auto, unfolding(crate::specs::Layout::is_present))]
 pub fn is_present(table: &[u16], x: u32) -> bool
     ensures { result ≡ is_present table.now x }
 {
-    if is_number(table, x) {
-        is_dart(table, x)
-    } else {
-        false
-    }
+    is_number(table, x) && is_dart(table, x)
 }

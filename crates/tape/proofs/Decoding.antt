@@ -10,43 +10,27 @@ use lib.Dec.{leb}
 use lib.ListN.{length, get_or, take, drop, set, length-set}
 use lib.Seq.{take_all, drop-length, paste-suc}
 use borrow.Author.Tests.{leb-true, ltb-true, lt-ltb, le-leb, lt-leb, ne_eqb}
-use Rattle.std.proofs.Common.{Result, Ok}
+use Rattle.std.proofs.Common.{Result, Ok, Err}
 use Rattle.std.specs.Result.{IsErrAnd}
 use Rattle.std.proofs.lemmas.Result.{err_from_is_err_and}
-use Rattle.hypermap.specs.Lists.{all}
 use Rattle.hypermap.proofs.Basics.Bools.{by_cases, and_left, and_right}
 use Rattle.table.specs.Refusals.{or_else, unless}
 use Rattle.tape.specs.Tapes.{operand_sizes, is_command, command_size, byte_of, size_of, read_refusal}
 use Rattle.table.specs.declared.refusals.Refusal.{Refusal}
-use Rattle.table.specs.declared.refusals.Refusal.TheVariants.{TornCommand}
 use Rattle.tape.specs.Tapes.{command_of, number_at, numbers_from}
 use Rattle.tape.specs.Opcodes.{byte_for}
-use Rattle.tape.specs.Inner.{meaning, Reads}
+use Rattle.tape.specs.Inner.{meaning, HasOperands, Reads}
 use Rattle.tape.specs.declared.Instruction.{Instruction}
 use Rattle.tape.specs.declared.opcode.Opcode.{Opcode}
 use Rattle.tape.specs.declared.opcode.Opcode.TheVariants as opcode
 use Rattle.hypermap.specs.Hypermap.{edge, vertex}
 use Rattle.table.specs.Commands.{puts, takes_out, joins, cuts}
-use Rattle.tape.specs.Steps.{TapeCommand, changes, reports, cuts_ring}
+use Rattle.tape.specs.Steps.{TapeCommand, changes, reports}
 
 -- COMMAND BYTES are indices of the operand table, and its entries are small
 pub command_below : (b : ℕ) → is_command b ≡ true → b < 9
 unfolding is_command operand_sizes
 command_below b h = ltb-true b 9 (and_right (leb 1 b) _ h)
-
-entry_below : (n : ℕ) (l : List ℕ) (i : ℕ) → all (λ x. leb x n) l ≡ true → get_or l i 0 ≤ n
-unfolding all
-entry_below n [] i h = omega arith
-entry_below n (x ∷ l) zero h = leb-true x n (and_left (leb x n) _ h)
-entry_below n (x ∷ l) (suc i) h = entry_below n l i (and_right (leb x n) _ h)
-
-pub entry_small : {l : List ℕ} → l ≡ operand_sizes → (b : ℕ) → get_or l b 0 ≤ 4
-unfolding operand_sizes all
-entry_small e b = rw e (entry_below 4 operand_sizes b refl)
-
-pub command_small : (b : ℕ) → command_size b ≤ 5
-unfolding command_size
-command_small b = let h = entry_small refl b in omega arith
 
 pub is_known : (b : ℕ) → 1 ≤ b → b ≤ 8 → is_command b ≡ true
 unfolding is_command operand_sizes
@@ -101,55 +85,76 @@ some_byte (x ∷ bs) b e p = omega arith
 byte_positive : (o : Opcode) → 1 ≤ byte_for o
 byte_positive o = grind arith
 
--- ANSWERS of the decoder, by the opcode o of the first byte: a change whose operands are on the tape or not
-module _ (bs : List ℕ) (o : Opcode) (e : byte_of bs ≡ byte_for o) (p : byte_for o ≤ 7) where
-  opcode_sized : {n : ℕ} → n ≡ command_size (byte_for o) → Sized bs n
-  opcode_sized {n} z = plain_sized bs (byte_for o) n (sym e) (byte_positive o) p z
+-- COMMANDS BUT THE RING, by their opcodes: how many operands each has, and the command of those operands
+abbrev operands_of : Opcode → ℕ
+operands_of opcode.Put = 1
+operands_of opcode.TakeOut = 1
+operands_of opcode.EdgeJoin = 2
+operands_of opcode.EdgeCut = 2
+operands_of opcode.VertexJoin = 2
+operands_of opcode.VertexCut = 2
+operands_of opcode.Report = 0
+operands_of opcode.RingCut = 0
 
+abbrev command_with : Opcode → (operands : List ℕ) → TapeCommand
+command_with opcode.Put xs = changes (puts (get_or xs 0 0))
+command_with opcode.TakeOut xs = changes (takes_out (get_or xs 0 0))
+command_with opcode.EdgeJoin xs = changes (joins edge (get_or xs 0 0) (get_or xs 1 0))
+command_with opcode.EdgeCut xs = changes (cuts edge (get_or xs 0 0) (get_or xs 1 0))
+command_with opcode.VertexJoin xs = changes (joins vertex (get_or xs 0 0) (get_or xs 1 0))
+command_with opcode.VertexCut xs = changes (cuts vertex (get_or xs 0 0) (get_or xs 1 0))
+command_with opcode.Report xs = reports
+command_with opcode.RingCut xs = reports
+
+size_by : (o : Opcode) → byte_for o ≤ 7 → 1 + 2 * operands_of o ≡ command_size (byte_for o)
+unfolding command_size operand_sizes
+size_by opcode.Put p = refl
+size_by opcode.TakeOut p = refl
+size_by opcode.EdgeJoin p = refl
+size_by opcode.EdgeCut p = refl
+size_by opcode.VertexJoin p = refl
+size_by opcode.VertexCut p = refl
+size_by opcode.Report p = refl
+size_by opcode.RingCut p = absurd (omega arith)
+
+command_by :
+    (bs : List ℕ) (o : Opcode) → byte_for o ≤ 7 → byte_of bs ≡ byte_for o →
+    command_with o (numbers_from (operands_of o) 1 bs) ≡ command_of bs
+unfolding command_of numbers_from
+command_by bs opcode.Put p e = rw e
+command_by bs opcode.TakeOut p e = rw e
+command_by bs opcode.EdgeJoin p e = rw e
+command_by bs opcode.EdgeCut p e = rw e
+command_by bs opcode.VertexJoin p e = rw e
+command_by bs opcode.VertexCut p e = rw e
+command_by bs opcode.Report p e = rw e
+command_by bs opcode.RingCut p e = absurd (omega arith)
+
+-- ANSWERS of the decoder in the arm of such an opcode: q is the one that the first byte b was read as
+module _
+    (bs : List ℕ) (b : ℕ) (first : b ≡ byte_of bs) (q : Opcode) (read : b ≡ byte_for q) (o : Opcode) (is : q ≡ o)
+    (p : byte_for o ≤ 7) where
+  byte_is : byte_of bs ≡ byte_for o
+  byte_is = sym first ∙ read ∙ ap byte_for is
+
+  sized : Sized bs (1 + 2 * operands_of o)
+  sized = plain_sized bs (byte_for o) _ (sym byte_is) (byte_positive o) p (size_by o p)
+
+  -- its operands are not all on the tape
   pub torn_reads :
-      (r : Result (Instruction × ℕ) Refusal) (d : Refusal) (n : ℕ) → n ≡ command_size (byte_for o) →
-      IsErrAnd r (λ y. y ≡ d) → (d ≡ TornCommand) × (length bs < n) → Reads bs r
-  torn_reads r d n z q t =
-      let u = err_from_is_err_and r q in rw (u.1, u.2, t.0) (torn_refusal (opcode_sized z) t.1)
+      (r : Result (Instruction × ℕ) Refusal) (d : Refusal) → IsErrAnd r (λ y. y ≡ d) →
+      HasOperands bs (operands_of o) (Err d) → Reads bs r
+  torn_reads r d q t = let u = err_from_is_err_and r q in rw (u.1, u.2, t.0) (torn_refusal sized t.1)
 
+  -- or they are the numbers xs, and i is the instruction of them
   pub whole_reads :
-      (i : Instruction) (n : ℕ) → n ≡ command_size (byte_for o) → n ≤ length bs → meaning bs i ≡ command_of bs →
-      Reads bs (Ok (i, n))
-  whole_reads i n z l m = let s = opcode_sized z in (whole_refusal s l, m, s.size)
-
--- the command by its opcode, and its operands among the numbers that were read
-abbrev pub command_at : (bs : List ℕ) → Opcode → TapeCommand
-command_at bs opcode.Put = changes (puts (number_at bs 1))
-command_at bs opcode.TakeOut = changes (takes_out (number_at bs 1))
-command_at bs opcode.EdgeJoin = changes (joins edge (number_at bs 1) (number_at bs 3))
-command_at bs opcode.EdgeCut = changes (cuts edge (number_at bs 1) (number_at bs 3))
-command_at bs opcode.VertexJoin = changes (joins vertex (number_at bs 1) (number_at bs 3))
-command_at bs opcode.VertexCut = changes (cuts vertex (number_at bs 1) (number_at bs 3))
-command_at bs opcode.Report = reports
-command_at bs opcode.RingCut = cuts_ring (numbers_from (2 * get_or bs 1 0) 2 bs)
-
-pub command_by : (bs : List ℕ) (o : Opcode) → byte_of bs ≡ byte_for o → command_at bs o ≡ command_of bs
-unfolding command_of
-command_by bs opcode.Put e = rw e
-command_by bs opcode.TakeOut e = rw e
-command_by bs opcode.EdgeJoin e = rw e
-command_by bs opcode.EdgeCut e = rw e
-command_by bs opcode.VertexJoin e = rw e
-command_by bs opcode.VertexCut e = rw e
-command_by bs opcode.Report e = rw e
-command_by bs opcode.RingCut e = rw e
-
-pub first_operand :
-    (bs : List ℕ) (n : ℕ) (xs : List ℕ) (x : ℕ) → xs ≡ numbers_from (suc n) 1 bs → x ≡ get_or xs 0 0 →
-    x ≡ number_at bs 1
-unfolding numbers_from
-first_operand bs n xs x e q = rw (q, e)
-
-pub second_operand :
-    (bs : List ℕ) (n : ℕ) (xs : List ℕ) (x : ℕ) → xs ≡ numbers_from (suc (suc n)) 1 bs → x ≡ get_or xs 1 0 →
-    x ≡ number_at bs 3
-unfolding numbers_from
-second_operand bs n xs x e q = rw (q, e)
+      (xs : List ℕ) → HasOperands bs (operands_of o) (Ok xs) → (i : Instruction) →
+      meaning bs i ≡ command_with o xs → (n : ℕ) → n ≡ command_size (byte_for q) → Reads bs (Ok (i, n))
+  whole_reads xs t i m n z = (
+    whole_refusal sized t.0,
+    m ∙ ap (command_with o) t.1 ∙ command_by bs o p byte_is,
+    z ∙ ap (λ k. command_size (byte_for k)) is ∙ sym (size_by o p) ∙ sized.size,
+  )
 
 -- NUMBERS one after the other
 pub numbers_length : (n i : ℕ) (bs : List ℕ) → length (numbers_from n i bs) ≡ n

@@ -1,11 +1,11 @@
 -- A tape played a command at a time, for any rule: the run so far, and how each command carries it on or ends it.
 -- Assumes nothing.
-use mathlib.Core.Path.{◌≡◌, sym, ap, ◌∙◌}
+use mathlib.Core.Path.{◌≡◌, refl, sym, ap, ◌∙◌}
 use mathlib.Core.List.{List}
 use Prim.Native.Nat.{ℕ, ◌+◌, ◌-◌, ◌≤◌, ◌<◌}
 use native.Mathlib.Omega.{arith}
 use lib.ListN.{length, take, drop}
-use mathlib.Core.Bool.{Bool, true, false}
+use mathlib.Core.Bool.{Bool, true, false, cond}
 use borrow.Author.Tests.{eq-eqb, ne_eqb, eqb-true, eqb-false}
 use lib.Dec.{eqb}
 use borrow.Author.Rules.{part_to_end}
@@ -16,16 +16,15 @@ use Rattle.std.specs.Result.{IsErrAnd}
 use Rattle.std.proofs.lemmas.Result.{err_from_is_err_and}
 use Rattle.table.specs.declared.refusals.Refusal.{Refusal}
 use Rattle.table.specs.Replies.{number}
+use Rattle.table.proofs.Replying.{number_positive}
 use Rattle.tape.specs.Replies.{run_reply}
 use Rattle.tape.specs.declared.Stopped.{Stopped}
 use Rattle.table.specs.Commands.{leaves}
-use Rattle.table.proofs.Stages.{passed, refused_first, refused}
+use Rattle.table.proofs.Stages.{passed}
 use Rattle.table.specs.Runs.{Rule, rule_leaves, Outcome, stopped, one_more, run_by}
 use Rattle.table.proofs.Runs.{run_stops, run_goes_on, later, later_one, later_stopped}
-use Rattle.tape.specs.Steps.{TapeCommand}
+use Rattle.tape.specs.Steps.{TapeCommand, reports}
 use Rattle.tape.specs.Tapes.{Contents, command_of, read_refusal, rest_of, size_of}
-use Rattle.tape.specs.Inner.{meaning}
-use Rattle.tape.specs.declared.Instruction.{Instruction}
 use Rattle.tape.specs.Runs.{tape_run, first_refusal, first_leaves}
 use Rattle.tape.proofs.Contents.{size_fits, rest_shorter, reading_law}
 
@@ -77,35 +76,36 @@ module _ {S : Type 0} (r : Rule S TapeCommand) (s : S) (bs : List ℕ) (e : firs
     pub first_rest : 0 < length bs → length (take (length bs - n) (drop n bs)) < length bs
     first_rest some = rw (part_to_end, z) (rest_shorter bs some)
 
--- IN CODE: the decoder reads the instruction i, and then the command is carried out
-pub unread_number :
-    {S : Type 0} (r : Rule S TapeCommand) (s : S) (bs : List ℕ) (k : ℕ) → k ≡ read_refusal bs → (k ≡ 0 → ⊥) →
-    k ≡ first_refusal r s bs
-unfolding first_refusal
-unread_number r s bs k e d = refused_first (read_refusal bs) (r.refusal s (command_of bs)) k e d
+-- WHAT THE CHECK TRIES BY ITSELF on a first command: the definitions, opened
+pub first_refusal_is :
+    {S : Type 0} (r : Rule S TapeCommand) (s : S) (bs : List ℕ) →
+    first_refusal r s bs ≡ cond (eqb (read_refusal bs) 0) (r.refusal s (command_of bs)) (read_refusal bs)
+unfolding first_refusal or_else
+first_refusal_is r s bs = refl
 
-pub unread_state :
-    {S : Type 0} (r : Rule S TapeCommand) (s : S) (bs : List ℕ) (k : ℕ) → k ≡ read_refusal bs → (k ≡ 0 → ⊥) →
-    s ≡ first_leaves r s bs
-unfolding first_leaves
-unread_state r s bs k e d = refused _ k _ _ (unread_number r s bs k e d) d
+pub first_leaves_is :
+    {S : Type 0} (r : Rule S TapeCommand) (s : S) (bs : List ℕ) →
+    first_leaves r s bs ≡ cond (eqb (first_refusal r s bs) 0) (r.on s (command_of bs)) s
+unfolding first_leaves leaves
+first_leaves_is r s bs = refl
 
-module _
-    {S : Type 0} (r : Rule S TapeCommand) (s : S) (bs : List ℕ) (i : Instruction) (n : ℕ)
-    (a : (read_refusal bs ≡ 0) × (meaning bs i ≡ command_of bs) × (n ≡ size_of bs)) where
-  pub read_number : (k : ℕ) → k ≡ r.refusal s (meaning bs i) → k ≡ first_refusal r s bs
-  unfolding first_refusal or_else
-  read_number k e = rw (a.0, ← a.1) e
+pub leaves_is : {S : Type 0} (n : ℕ) (v w : S) → leaves n v w ≡ cond (eqb n 0) v w
+unfolding leaves
+leaves_is n v w = refl
 
-  pub read_state : (t : S) → t ≡ rule_leaves r s (meaning bs i) → t ≡ first_leaves r s bs
-  unfolding first_leaves first_refusal or_else
-  read_state t e = rw (a.0, ← a.1) e
+pub ruleset firsts = (first_refusal_is, first_leaves_is, leaves_is, number_positive)
 
--- THE STATE of a run: from s₀ and the whole tape, k commands on, each of which keeps P
-pub record Playing {S : Type 0} (r : Rule S TapeCommand) (P : S → Type 0) (s₀ : S) (tape : List ℕ) (s : S)
+-- a report that is accepted and changes nothing leaves the state
+pub report_leaves :
+    {S : Type 0} (r : Rule S TapeCommand) (s : S) → r.refusal s reports ≡ 0 → r.on s reports ≡ s →
+    s ≡ rule_leaves r s reports
+unfolding leaves
+report_leaves r s e k = rw (e, k)
+
+-- THE STATE of a run: from s₀ and the whole tape, k commands on
+pub record Playing {S : Type 0} (r : Rule S TapeCommand) (s₀ : S) (tape : List ℕ) (s : S)
     (rest : List ℕ) (k : ℕ) : Type 0 where
   pub few : k + length rest ≤ length tape
-  pub keeps : P s
   pub same : tape_run r s₀ tape ≡ later k (tape_run r s rest)
 
 -- it ends by n after k commands, with s
@@ -113,8 +113,8 @@ abbrev pub Ends : {S : Type 0} → Outcome S → (n k : ℕ) → S → Type 0
 Ends o n k s = o ≡ record { number = n; accepted = k; state = s }
 
 module _
-    {S : Type 0} (r : Rule S TapeCommand) (P : S → Type 0) (s₀ : S) (tape : List ℕ) (s : S) (rest : List ℕ) (k : ℕ)
-    (h : Playing r P s₀ tape s rest k) where
+    {S : Type 0} (r : Rule S TapeCommand) (s₀ : S) (tape : List ℕ) (s : S) (rest : List ℕ) (k : ℕ)
+    (h : Playing r s₀ tape s rest k) where
   ends : (n : ℕ) → tape_run r s rest ≡ stopped n s → Ends (tape_run r s₀ tape) n k s
   ends n e = h.same ∙ ap (later k) e ∙ later_stopped k n s
 
@@ -138,10 +138,9 @@ module _
         rw (u, g) (ends _ (run_refused r s rest some (λ y. x (g ∙ y)))))
 
     pub playing_on :
-        ((s : S) (c : TapeCommand) → P s → r.refusal s c ≡ 0 → P (r.on s c)) → f ≡ 0 → (n : ℕ) → n ≡ size_of rest →
-        Playing r P s₀ tape t (take (length rest - n) (drop n rest)) (k + 1)
+        f ≡ 0 → (n : ℕ) → n ≡ size_of rest → Playing r s₀ tape t (take (length rest - n) (drop n rest)) (k + 1)
     unfolding first_leaves leaves
-    playing_on step z n q =
+    playing_on z n q =
         let v = sym e ∙ z in
         let g = first_accepted r s rest v in
         let u : t ≡ r.on s (command_of rest) = l ∙ rw (eq-eqb _ 0 v) in
@@ -149,7 +148,6 @@ module _
         rw (part_to_end, u, q)
         (record {
           few = omega (arith, h.few);
-          keeps = step s (command_of rest) h.keeps g;
           same = h.same ∙ ap (later k) (run_on r s rest some (first_read r s rest v) g) ∙ later_one k _;
         })
 

@@ -1,6 +1,7 @@
 -- After every accepted command of a tape the table holds a hypermap. Assumes nothing.
 use mathlib.Core.Path.{◌≡◌, refl, ◌∙◌}
 use mathlib.Core.Bool.{true}
+use mathlib.Core.List.{List}
 use Prim.Native.Nat.{ℕ, ◌*◌, ◌≤◌}
 use native.Mathlib.Omega.{arith}
 use lib.Dec.{eqb}
@@ -9,11 +10,12 @@ use borrow.Author.Tests.{eqb-true}
 use Rattle.hypermap.proofs.Basics.Bools.{by_cases}
 use Rattle.table.specs.Limits.{words_per_dart, max_capacity}
 use Rattle.table.specs.Layout.{Table, holds_hypermap}
-use Rattle.table.specs.Commands.{leaves}
+use Rattle.table.specs.Commands.{Command, command_leaves, leaves}
 use Rattle.table.specs.Inner.{WithinCapacity}
 use Rattle.table.proofs.Zeros.{zeros_hold}
 use Rattle.table.proofs.Commands.{keeps_hypermap_law}
 use Rattle.table.proofs.Runs.{run_keeps}
+use Rattle.rings.specs.Rings.{ring_leaves}
 use Rattle.rings.proofs.Parting.{accepted_cut}
 use Rattle.tape.specs.Steps.{TapeCommand, changes, reports, cuts_ring, step_refusal, step_on, step_rule}
 use Rattle.tape.specs.Steps.{step_leaves}
@@ -27,17 +29,29 @@ step_holds w (changes c) s e = keeps_hypermap_law w s c e
 step_holds w reports s e = (s, refl)
 step_holds w (cuts_ring ws) s e = let i = accepted_cut w ws s e in (i.hypermap, i.size)
 
--- whether it is accepted or not, there is as much room as before
-pub leaves_within :
-    (w : Table) (c : TapeCommand) → WithinCapacity w →
-    WithinCapacity (step_leaves w c) × (length (step_leaves w c) ≡ length w)
+-- whether it is accepted or not, the table is within the capacity
+left_within : (w : Table) (c : TapeCommand) → WithinCapacity w → WithinCapacity (step_leaves w c)
 unfolding leaves
-leaves_within w c k =
+left_within w c k =
     by_cases (eqb (step_refusal w c) 0)
     (λ t.
     let s = step_holds w c k.hypermap (eqb-true (step_refusal w c) 0 t) in
-    rw t (record { hypermap = s.0; room = rw s.1 k.room }, s.1))
-    (λ f. rw f (k, refl))
+    rw t (record { hypermap = s.0; room = rw s.1 k.room }))
+    (λ f. rw f k)
+
+-- WHAT THE CHECK TRIES BY ITSELF on what a command leaves, as the code of each kind of command tells it
+pub change_within : (w : Table) (c : Command) → WithinCapacity w → WithinCapacity (command_leaves w c)
+change_within w c = left_within w (changes c)
+
+pub ring_within : (w : Table) (ws : List ℕ) → WithinCapacity w → WithinCapacity (ring_leaves w ws)
+unfolding ring_leaves
+ring_within w ws = left_within w (cuts_ring ws)
+
+pub ring_leaves_is : (w : Table) (ws : List ℕ) → ring_leaves w ws ≡ step_leaves w (cuts_ring ws)
+unfolding ring_leaves
+ring_leaves_is w ws = refl
+
+pub ruleset within = (change_within, ring_within, ring_leaves_is)
 
 -- a run starts on an empty table
 pub zeros_within : (n : ℕ) → n ≤ max_capacity → WithinCapacity (replicate (words_per_dart * n) 0)
@@ -48,13 +62,3 @@ pub run_keeps_hypermap_law : RunKeepsHypermapLaw
 run_keeps_hypermap_law w tape s =
     run_keeps step_rule (λ v. (holds_hypermap v ≡ true) × (length v ≡ length w))
     (λ v c h e. let i = step_holds v c h.0 e in (i.0, i.1 ∙ h.1)) (contents_of tape).commands w _ (s, refl)
-
--- WHAT A LOOP KEEPS of its table, beside the run: as much room as at first
-pub record Roomy (w₀ w : Table) : Type 0 where
-  pub table : WithinCapacity w
-  pub size : length w ≡ length w₀
-
-pub roomy_on : (w₀ w : Table) (c : TapeCommand) → Roomy w₀ w → step_refusal w c ≡ 0 → Roomy w₀ (step_on w c)
-roomy_on w₀ w c h e =
-    let i = step_holds w c h.table.hypermap e in
-    record { table = record { hypermap = i.0; room = rw i.1 h.table.room }; size = i.1 ∙ h.size }

@@ -6,6 +6,7 @@
 ghost use Rattle.std.specs.Prelude.{◌≡◌};
 
 pub mod decode;
+pub mod machine;
 pub mod opcode;
 pub mod play;
 pub mod step;
@@ -13,7 +14,8 @@ pub mod step;
 use table::Change;
 use table::refusals::Refusal;
 
-// A command of a tape. A ring has its number of double-links here, and its darts on the tape.
+// A command of a tape. A ring has its number of double-links here, and its darts stay on the tape: an instruction that
+// held a part of the tape would give itself, and every type that holds one, a lifetime.
 #[derive(Clone, Copy)]
 pub enum Instruction {
     Change(Change),
@@ -40,7 +42,8 @@ impl From<Refusal> for Stopped {
     }
 }
 
-// What C is told of a run: 0 or the refusal that stopped it, and how many commands were accepted.
+// What C, which has no `Result`, is told of a run: 0 or the refusal that stopped it, and how many commands were
+// accepted.
 #[repr(C)]
 #[derive(Clone, Copy)]
 pub struct Run {

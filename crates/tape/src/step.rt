@@ -1,41 +1,48 @@
-// One command of a tape on a table within the capacity. What it leaves holds a hypermap again, so a run judges its
-// table once.
+// One command of a tape on a machine.
 ghost use Rattle.std.specs.Prelude.{◌≡◌, ◌*◌};
-ghost use Rattle.table.specs.Inner.{WithinCapacity};
 ghost use Rattle.table.specs.Replies.{reply};
-ghost use Rattle.rings.specs.Rings.{ring_refusal, ring_leaves};
+ghost use Rattle.table.specs.Runs.{rule_leaves};
 ghost use Rattle.tape.specs.Tapes.{numbers_from};
-ghost use Rattle.tape.specs.Steps.{step_refusal, step_leaves};
+ghost use Rattle.tape.specs.Steps.{cuts_ring};
 ghost use Rattle.tape.specs.Inner.{meaning};
 
+use crate::machine::Machine;
 use crate::{Instruction, decode};
-use rings::cut;
-use table::changes;
 use table::limits::MAX_TAPE_RING;
 use table::refusals::Refusal;
 
-// A ring of n double-links, whose darts stand after the count on the tape.
-#[inline(never)]
-fn cut_tape_ring(table: &mut [u16], tape: &[u8], n: u8) -> Result<(), Refusal>
-    requires { WithinCapacity table.old }
-    ensures value { reply result ≡ ring_refusal table.old (numbers_from (2 * n) 2 tape.now) }
-    ensures table { table.new ≡
-        ring_leaves table.old (numbers_from (2 * n) 2 tape.now) }
+// Cuts along a ring of n double-links, whose darts stand after the count on the tape. Inlined into the loop of a run,
+// like every function that takes a machine: if the loop passed the machine's address to a call, it would have to read
+// the machine's references again at every command.
+#[inline(always)]
+fn cut_tape_ring<M: Machine>(machine: &mut M, tape: &[u8], n: u8) -> Result<(), Refusal>
+    ensures value { reply result ≡
+        M.rule.refusal (M.state machine.old) (cuts_ring (numbers_from (2 * n) 2 tape.now)) }
+    ensures state { M.state machine.new ≡
+        rule_leaves M.rule (M.state machine.old) (cuts_ring (numbers_from (2 * n) 2 tape.now)) }
+    ensures names { M.names machine.new ≡ M.names machine.old }
 {
-    let mut words = [0u16; MAX_TAPE_RING];
-    cut::cut_ring(table, decode::read_ring(tape, n, &mut words))
+    let mut words = [0u16; MAX_TAPE_RING]; // fixed memory: no heap
+    machine.cut_ring(decode::read_ring(tape, n, &mut words))
 }
 
-// A report is accepted and changes nothing.
-pub fn take_step(table: &mut [u16], tape: &[u8], instruction: Instruction) -> Result<(), Refusal>
-    requires { WithinCapacity table.old }
-    ensures value { reply result ≡ step_refusal table.old (meaning tape.now instruction) }
-    ensures table { table.new ≡
-        step_leaves table.old (meaning tape.now instruction) }
+// Carries out one command: a change or a ring on the machine. A report is accepted without asking the machine.
+#[inline(always)]
+#[tactic(auto, using(crate::proofs::Playing::report_leaves))]
+pub fn take_step<M: Machine>(
+    machine: &mut M,
+    tape: &[u8],
+    instruction: Instruction,
+) -> Result<(), Refusal>
+    ensures value { reply result ≡ M.rule.refusal (M.state machine.old) (meaning tape.now instruction) }
+    ensures state { M.state machine.new ≡
+        rule_leaves M.rule (M.state machine.old) (meaning tape.now instruction) }
+    ensures names { M.names machine.new ≡ M.names machine.old }
 {
+    // A match: what each kind does to the machine is the machine's, and which kind it is comes off the tape.
     match instruction {
-        Instruction::Change(change) => changes::perform(table, change),
+        Instruction::Change(change) => machine.perform(change),
         Instruction::Report => Ok(()),
-        Instruction::RingCut(n) => cut_tape_ring(table, tape, n),
+        Instruction::RingCut(n) => cut_tape_ring(machine, tape, n),
     }
 }

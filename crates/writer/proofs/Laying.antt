@@ -27,10 +27,6 @@ pub lays_none : {at : ℕ} {o : List ℕ} → Lays at [] o o at
 unfolding written
 lays_none = record { laid = refl; place = omega arith }
 
-pub lays_one : {at v b : ℕ} {o : List ℕ} → v ≡ b → Lays at (b ∷ []) o (set o at v) (at + 1)
-unfolding written
-lays_one e = record { laid = rw e; place = refl }
-
 -- bytes put in place of a part of the buffer
 pub lays_bytes :
     {at : ℕ} {bs o : List ℕ} → HasRoom at bs o →

@@ -10,13 +10,14 @@ use lib.Dec.{eqb}
 use borrow.Author.Tests.{ne_eqb}
 use Rattle.hypermap.specs.Lists.{keep}
 use Rattle.hypermap.specs.Hypermap.{Dimension, Hypermap, of, orbit_of, is_least_in}
-use Rattle.hypermap.proofs.Basics.Bools.{by_cases}
+use Rattle.hypermap.proofs.Basics.Bools.{by_cases, refuted, and_left}
 use Rattle.table.specs.Layout.{Table, capacity, up_from, is_present, hypermap_of}
 use Rattle.table.specs.Commands.{puts}
+use Rattle.table.proofs.Holding.{first_word, present_from}
 use Rattle.parts.specs.Marks.{mark_of, marks_of, orbit_marks}
 use Rattle.parts.specs.Inner.{mark_at}
 use Rattle.parts.proofs.Counting.{keep_both}
-use Rattle.parts.proofs.LeastMarks.{map_up_from}
+use Rattle.parts.proofs.LeastMarks.{map_up_from, marks_length}
 use Rattle.tape.specs.Tapes.{bytes_of, tape_bytes}
 use Rattle.writer.specs.Canonical.{orbit_joins, joins_over, puts_of, joins_of}
 use Rattle.writer.specs.Inner.{HasRoom, Lays}
@@ -119,3 +120,20 @@ module _ (w : Table) where
       let e : 1 + (x - 1) ≡ x = omega arith in
       let g = map_up_from (mark_of w part) 1 (capacity w) (x - 1) (omega arith) ∙ ap (mark_of w part) e in
       rw (v, u, g) (by_cases (is_present w x) (λ t. rw t) (λ t. rw t (sym (ne_eqb 0 x (omega arith)))))
+
+-- WHAT THE CHECK TRIES BY ITSELF on a pass
+pub ruleset passing = (
+  refuted,
+  and_left,
+  first_word,
+  present_from,
+  marks_length,
+  passing_none,
+  passing_room,
+  passing_yes,
+  passing_no,
+  passing_all,
+  all_puts,
+  all_joins,
+  first_test,
+)

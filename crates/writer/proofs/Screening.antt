@@ -72,19 +72,19 @@ behind hs bs o p t {n} l f w =
     rw (a, d, v, append-nil, drop-drop, h) (sym (append_assoc hs bs _))
 
 pub answer_laid :
-    (w : Table) (r : Run) (c : Counts) (z : ℕ) (hs o p t : List ℕ) {n : ℕ} →
+    (w : Table) (r : Run) (k : ℕ) (c : Counts) (z : ℕ) (hs o p t : List ℕ) {n : ℕ} → k ≡ r.number →
     c ≡ counts_of (hypermap_of w) → z ≡ twos_complement c.characteristic → screen_room ≤ length o →
     length (tape_of w) ≤ longest_canonical →
     hs ≡
     numbers_bytes
-    (r.number ∷ r.accepted ∷ c.darts ∷ c.edges ∷ c.vertices ∷ c.faces ∷ c.components ∷ z ∷ c.genus ∷
+    (k ∷ r.accepted ∷ c.darts ∷ c.edges ∷ c.vertices ∷ c.faces ∷ c.components ∷ z ∷ c.genus ∷
     c.lifts ∷ []) → Lays 0 hs o p n → t ≡ written_leaves (tape_of w) (take (length p - n) (drop n p)) →
     take n p ++ (t ++ drop (length p - n) (drop n p)) ≡
     screen_bytes (outcome_of r w) ++ drop (length (screen_bytes (outcome_of r w))) o
 unfolding screen_bytes
-answer_laid w r c z hs o p t i e l m g f v =
+answer_laid w r k c z hs o p t q i e l m g f v =
     let ns = ten_numbers r.number r.accepted (counts_of (hypermap_of w)) in
-    behind (numbers_bytes ns) (tape_of w) o p t (omega (arith, numbers_length ns)) (rw (g, e, i) at f) v
+    behind (numbers_bytes ns) (tape_of w) o p t (omega (arith, numbers_length ns)) (rw (g, q, e, i) at f) v
 
 -- the tape has room there
 written_ok :

@@ -25,7 +25,8 @@ pub record Lays (at : ℕ) (bytes before after : List ℕ) (end : ℕ) : Type 0 
   pub laid : after ≡ written at bytes before
   pub place : end ≡ at + length bytes
 
--- the joins of one orbit, and of all orbits by the marks of each dart's least
+-- room for the joins of one orbit, and for those of all orbits of a dimension, where each dart has the least dart of
+-- its orbit for a mark
 pub record OrbitJoinsRoom (w : Table) (k : theory.Dimension) (x at : ℕ) (out : List ℕ) : Type 0 where
   pub dart : HypermapAt w x
   pub room : HasRoom at (tape_bytes (orbit_joins (hypermap_of w) k x)) out
@@ -35,7 +36,7 @@ pub record JoinsRoom (w : Table) (k : theory.Dimension) (marks : List ℕ) (at :
   pub marked : marks ≡ orbit_marks w (of k)
   pub room : HasRoom at (tape_bytes (joins_of (hypermap_of w) k)) out
 
--- marks for both dimensions
+-- a mark for each number in both dimensions
 pub record WriterMarks (w : Table) (edges vertices : List ℕ) : Type 0 where
   pub table : WithinCapacity w
   pub edges_size : length edges ≡ capacity w
@@ -51,7 +52,7 @@ abbrev pub written_in : Result ℕ Refusal → Written
 written_in (Ok n) = record { number = 0; count = n }
 written_in (Err r) = record { number = number r; count = 0 }
 
--- a tape into a buffer: 14 where it is shorter, and then as it was
+-- a tape written into a buffer: refusal 14 where the buffer is shorter than the tape, and then the buffer is unchanged
 unfoldable pub written_of : (tape out : List ℕ) → Written
 written_of bs o =
     cond (leb (length bs) (length o)) (record { number = 0; count = length bs })

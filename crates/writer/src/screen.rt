@@ -23,7 +23,7 @@ pub fn write_answer(table: &[u16], run: Run, out: &mut [u8])
 {
     let c = count::counts(table);
     let numbers = [
-        run.number as u32,
+        run.number.into(),
         run.accepted,
         c.darts,
         c.edges,
@@ -39,8 +39,8 @@ pub fn write_answer(table: &[u16], run: Run, out: &mut [u8])
     write::write_tape(table, &mut out[end..]).unwrap();
 }
 
-// A run on an empty table of the greatest capacity, and its answer. Never inlined: the table makes a large frame, and
-// where a function returns early ahead of one, the machine code of this kit's LLVM loses the address of an argument.
+// A run on an empty table of the greatest capacity, and its answer. Never inlined: its frame is large, and a function
+// may not return early ahead of such a frame (docs/DECISIONS.md, "The screen's table in a function of its own").
 #[inline(never)]
 pub fn play_and_answer(tape: &[u8], out: &mut [u8])
     requires short { length tape.now ≤ max_tape }
@@ -48,7 +48,7 @@ pub fn play_and_answer(tape: &[u8], out: &mut [u8])
     ensures { out.new ≡ screen_bytes (run_of (replicate (words_per_dart * max_capacity) 0) tape.now) ++
         drop (length (screen_bytes (run_of (replicate (words_per_dart * max_capacity) 0) tape.now))) out.old }
 {
-    let mut table = [0u16; MAX_WORDS];
-    let run = Run::from(play::play(&mut table, tape));
+    let mut table = [0u16; MAX_WORDS]; // fixed memory: no heap
+    let run = Run::from(play::play_table(&mut table, tape));
     write_answer(&table, run, out);
 }

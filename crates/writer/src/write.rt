@@ -12,15 +12,16 @@ ghost use Rattle.writer.specs.Inner.{written_leaves};
 
 use parts::count;
 use parts::marks::{mark_of, mark_orbits};
-use table::limits::{EDGE_NEXT, MAX_CAPACITY};
+use table::limits::MAX_CAPACITY;
 use table::refusals::Refusal;
+use table::words::NEXT;
 use table::{Dimension, Orbit, walk, words};
-use tape::opcode::Opcode;
+use tape::opcode::{OPERAND_BYTES, Opcode};
 
-// Bytes of a put and of a join.
-const PUT_SIZE: usize = 3;
+// Bytes of a put and of a join. `as`: a constant can call neither `Opcode::size` nor a `From`.
+const PUT_SIZE: usize = 1 + OPERAND_BYTES[Opcode::Put as usize] as usize;
 
-const JOIN_SIZE: usize = 5;
+const JOIN_SIZE: usize = 1 + OPERAND_BYTES[Opcode::EdgeJoin as usize] as usize;
 
 // COMMANDS
 
@@ -34,6 +35,7 @@ fn put_bytes(x: u16) -> [u8; PUT_SIZE]
 fn join_bytes(d: Dimension, a: u16, b: u16) -> [u8; JOIN_SIZE]
     ensures { result ≡ bytes_of (joins (dimension_of d) a b) }
 {
+    // A match: one opcode for each dimension.
     let opcode = match d {
         Dimension::Edge => Opcode::EdgeJoin,
         Dimension::Vertex => Opcode::VertexJoin,
@@ -43,7 +45,10 @@ fn join_bytes(d: Dimension, a: u16, b: u16) -> [u8; JOIN_SIZE]
     [opcode.into(), a_low, a_high, b_low, b_high]
 }
 
-// Bytes into a buffer, from a place on; answers the place after them.
+// Bytes into a buffer, from a place on; answers the place after them. The two are passed apart here and below: if a
+// struct held both, each contract would have to say besides that it still holds the same buffer. With `&mut out[at..]`
+// for both and a length for an answer, each caller would have to add the place.
+#[tactic(auto, using(crate::proofs::Laying::lays_bytes))]
 pub fn write_bytes(out: &mut [u8], at: usize, bytes: &[u8]) -> usize
     requires { HasRoom at bytes.now out.old }
     ensures { Lays at bytes.now out.old out.new result }
@@ -53,10 +58,10 @@ pub fn write_bytes(out: &mut [u8], at: usize, bytes: &[u8]) -> usize
     end
 }
 
-// PARTS of the tape. The buffer and the place in it are passed apart: of a struct that held both, each contract would
-// have to say besides that it still holds the same buffer.
+// PARTS of the tape
 
 // Every dart is put.
+#[tactic(auto, using(crate::proofs::Passing::passing))]
 fn write_puts(table: &[u16], out: &mut [u8]) -> usize
     requires { WithinCapacity table.now × HasRoom 0 (tape_bytes (puts_of (hypermap_of table.now))) out.old }
     ensures { Lays 0 (tape_bytes (puts_of (hypermap_of table.now)))
@@ -64,29 +69,30 @@ fn write_puts(table: &[u16], out: &mut [u8]) -> usize
 {
     let mut at = 0;
     for x in 1..words::numbers_end(table) {
-        if 0 < words::word(table, x, EDGE_NEXT) {
+        if words::is_dart(table, x.into()) {
             at = write_bytes(out, at, &put_bytes(x));
         }
     }
     at
 }
 
-// x is joined to each further dart of its orbit.
+// x is joined to each further dart of its orbit. Buffer and place are apart, as in `write_bytes`.
 fn write_orbit_joins(table: &[u16], d: Dimension, x: u16, out: &mut [u8], from: usize) -> usize
     requires { OrbitJoinsRoom table.now (dimension_of d) x from out.old }
     ensures { Lays from (tape_bytes (orbit_joins (hypermap_of table.now) (dimension_of d) x))
         out.old out.new result }
 {
     let mut at = from;
-    let mut y = walk::next(table, d, x);
+    let mut y = walk::neighbour::<NEXT>(table, d, x);
     while y != x {
         at = write_bytes(out, at, &join_bytes(d, x, y));
-        y = walk::next(table, d, y);
+        y = walk::neighbour::<NEXT>(table, d, y);
     }
     at
 }
 
-// Every orbit is joined, from its least dart.
+// Every orbit is joined, from its least dart. Buffer and place are apart, as in `write_bytes`.
+#[tactic(auto, using(crate::proofs::Passing::passing))]
 fn write_joins(table: &[u16], d: Dimension, marks: &[u16], out: &mut [u8], from: usize) -> usize
     requires { JoinsRoom table.now (dimension_of d) marks.now from out.old }
     ensures { Lays from (tape_bytes (joins_of (hypermap_of table.now) (dimension_of d)))
@@ -103,17 +109,18 @@ fn write_joins(table: &[u16], d: Dimension, marks: &[u16], out: &mut [u8], from:
 
 // THE TAPE
 
-// Its bytes: a put for each dart, and a join for each dart that is not the least of its orbit.
+// Answers its length: a put for each dart, and in each dimension a join for each dart that is not its orbit's least.
 #[tactic(auto, unfolding(tape::specs::Tapes::command_size, tape::specs::Tapes::operand_sizes))]
 fn tape_size(darts: u32, edges: u32, vertices: u32) -> u32
     requires { (darts ≤ max_capacity) × (edges ≤ darts) × (vertices ≤ darts) }
     ensures { result + 5 * (edges + vertices) ≡ 13 * darts }
 {
     let joins = (darts - edges) + (darts - vertices);
+    // `as`: the library has no `From<usize>` for `u32`, and `try_from` adds a branch that panics.
     Opcode::Put.size() as u32 * darts + Opcode::EdgeJoin.size() as u32 * joins
 }
 
-// With room for a mark of each dart in each dimension.
+// Lent a mark for each number in each dimension. Answers the number of bytes written.
 fn write_marked(
     table: &[u16],
     edge_marks: &mut [u16],
@@ -128,6 +135,7 @@ fn write_marked(
     let edges = mark_orbits(table, Orbit::Edge, edge_marks);
     let vertices = mark_orbits(table, Orbit::Vertex, vertex_marks);
     let size = tape_size(darts, edges, vertices);
+    // `as`: the library has no `From<u32>` for `usize`, and `try_from` adds a branch that panics.
     if out.len() < size as usize {
         return Err(Refusal::ShortRoom);
     }
@@ -137,14 +145,14 @@ fn write_marked(
     Ok(size)
 }
 
-// The bytes written.
+// The canonical tape. Answers the number of bytes written.
 pub fn write_tape(table: &[u16], out: &mut [u8]) -> Result<u32, Refusal>
     requires { WithinCapacity table.now }
     ensures value { written_in result ≡ written_of (tape_of table.now) out.old }
     ensures out { out.new ≡ written_leaves (tape_of table.now) out.old }
 {
     let n = words::capacity_of(table);
-    let mut edge_marks = [0u16; MAX_CAPACITY];
-    let mut vertex_marks = [0u16; MAX_CAPACITY];
+    let mut edge_marks = [0u16; MAX_CAPACITY]; // fixed memory: no heap
+    let mut vertex_marks = [0u16; MAX_CAPACITY]; // fixed memory: no heap
     write_marked(table, &mut edge_marks[..n], &mut vertex_marks[..n], out)
 }

@@ -1,4 +1,4 @@
-use Rattle.std.proofs.Common.{sym}
+use Rattle.std.proofs.Common.{sym, rules}
 use Rattle.table.proofs.Replying.{number_positive, exits}
 use Rattle.journal_calls.proofs.Replies.{state_passed, unperformed, performed}
 use Rattle.journal_calls.proofs.ring_cut.Goals as goal
@@ -8,8 +8,14 @@ returns-in_err-judge_state c =
     rw (exits _ _ c.from_residual.ensures.1)
     (unperformed _ _ _ c.in_err-judge_state.ensures (number_positive _))
 
-pub add_ring-requires : goal.add_ring-requires
-add_ring-requires c = state_passed _ (sym c.in_ok-judge_state.ensures)
+pub invariant_of-machine : goal.invariant_of-machine
+invariant_of-machine c = record { within = state_passed _ (sym c.in_ok-judge_state.ensures) }
 
-pub returns : goal.returns
-returns c = performed _ _ c.in_ok-judge_state.ensures _ _ c.add_ring.ensures
+pub returns-clause-value : goal.returns-clause-value
+returns-clause-value c =
+    (performed _ _ c.in_ok-judge_state.ensures _ c.cut_ring.ensures.value _ c.cut_ring.ensures.state).value
+
+pub returns-clause-state : goal.returns-clause-state
+returns-clause-state c =
+    let p = (performed _ _ c.in_ok-judge_state.ensures _ c.cut_ring.ensures.value _ c.cut_ring.ensures.state).state in
+    search rules

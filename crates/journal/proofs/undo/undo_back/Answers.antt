@@ -1,24 +1,20 @@
-use Rattle.std.proofs.Common.{refl, sym, ap}
-use Rattle.table.proofs.Replying.{number_positive}
+use Rattle.std.proofs.Common.{rules, ◌-◌, sym, ap, ◌∙◌}
 use Rattle.tape.specs.Runs.{told_of}
-use Rattle.journal.proofs.Undoings.{going_start, entry_there, going_end, going_stop, going_on}
+use Rattle.journal.proofs.Undoings.{going_end, going_stop, going_on, kept_on, stopped_after}
 use Rattle.journal.proofs.undo.undo_back.Goals as goal
 
-pub loop-n-init : goal.loop-n-init
-loop-n-init c = going_start _ _ _ _ c.requires
-
-pub undo_entry-requires : goal.undo_entry-requires
-undo_entry-requires c = entry_there _ _ _ _ _ _ c.loop-n.invariant c.loop-n-test.true
-
-pub returns-in-Err : goal.returns-in-Err
-returns-in-Err c =
-    let e = going_stop _ _ _ _ _ _ c.loop-n.invariant c.loop-n-test.true _ _ c.in-Err.ensures.value
-    c.in-Err.ensures.table (number_positive _) in
-    record { value = ap told_of (sym e); table = ap (λ o. o.state) (sym e) }
+pub returns-in_err-map_err : goal.returns-in_err-map_err
+returns-in_err-map_err c =
+    let m = c.in_err-map_err.ensures in
+    let s = stopped_after c.undo_entry.result (c.args.used - 1 - (c.loop-n.n-counter - 1)) _ _ _ _ m.cases
+    (λ d o. search rules) c.from_residual.ensures.1 m.variant in
+    let e = going_stop _ _ _ _ _ _ c.loop-n.invariant c.loop-n-test.true _ _ c.undo_entry.ensures.value
+    c.undo_entry.ensures.table s.0 in
+    record { value = s.1 ∙ ap told_of (sym e); table = ap (λ o. o.state) (sym e) }
 
 pub loop-n-preserved : goal.loop-n-preserved
-loop-n-preserved c = going_on _ _ _ _ _ _ c.loop-n.invariant c.loop-n-test.true _ _ c.in_default.ensures.value
-    c.in_default.ensures.table refl
+loop-n-preserved c = going_on _ _ _ _ _ _ c.loop-n.invariant c.loop-n-test.true _ _ c.undo_entry.ensures.value
+    c.undo_entry.ensures.table (kept_on _ c.in_ok-map_err.ensures.variant)
 
 pub returns : goal.returns
 returns c =

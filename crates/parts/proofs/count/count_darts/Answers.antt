@@ -1,20 +1,23 @@
-use Rattle.std.proofs.Common.{sym, arith}
-use Rattle.hypermap.proofs.Basics.Bools.{refuted}
-use Rattle.table.proofs.Holding.{first_word, present_from}
+use Rattle.std.proofs.Common.{◌≡◌, ℕ, ◌≤◌, ltb, refl, sym, ◌∙◌, le-leb, arith}
+use Rattle.table.specs.Limits.{edge_next}
+use Rattle.table.specs.Layout.{Table, capacity, word_at, is_present}
 use Rattle.parts.proofs.Counting.{counting_yes, counting_no, counting_all}
 use Rattle.parts.proofs.count.count_darts.Goals as goal
-use Rattle.parts.proofs.count.count_darts.Goals.{then-word-gt0, else-word-gt0}
+use Rattle.parts.proofs.count.count_darts.Goals.{then-is_dart, else-is_dart}
+
+-- a number of the table is present if it is a dart
+tested : (w : Table) (x y : ℕ) → y ≡ x → 1 ≤ x → x ≤ capacity w → is_present w x ≡ ltb 0 (word_at w y edge_next)
+unfolding is_present
+tested w x y e l h = rw (e, le-leb 1 x l, le-leb x (capacity w) h) refl
 
 pub loop-x-preserved : goal.loop-x-preserved
 loop-x-preserved c =
-    let e = c.word.ensures in
-    elim c.if-word-gt0.branch [
-      | then-word-gt0 w ↦
-          rw w.count-is (counting_yes _ _ _ _ c.loop-x.invariant (omega arith)
-          (present_from _ _ c.loop-x.invariant.ones.low (omega arith) (rw (sym e) w.if-word-gt0.true)))
-      | else-word-gt0 w ↦
-          rw w.count-is (counting_no _ _ _ _ c.loop-x.invariant (omega arith)
-          (refuted _ (λ p. omega (arith, first_word _ _ p, w.if-word-gt0.false))))
+    let i = c.loop-x.invariant in
+    let high : c.loop-x.x ≤ capacity c.args.table.now = omega arith in
+    let p = tested c.args.table.now _ _ c.from.ensures i.ones.low high in
+    elim c.if-is_dart.branch [
+      | then-is_dart w ↦ rw w.count-is (counting_yes _ _ _ _ i high (p ∙ sym w.if-is_dart.ensures))
+      | else-is_dart w ↦ rw w.count-is (counting_no _ _ _ _ i high (p ∙ sym w.if-is_dart.ensures))
     ]
 
 pub returns : goal.returns

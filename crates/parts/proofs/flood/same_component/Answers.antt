@@ -1,6 +1,5 @@
 use Rattle.std.proofs.Common.{arith}
 use Rattle.table.specs.Limits.{max_capacity}
-use Rattle.table.proofs.Holding.{low, high}
 use Rattle.parts.proofs.Flooding.{unmarked_zeros, flooded_test}
 use Rattle.parts.proofs.flood.same_component.Goals as goal
 
@@ -9,11 +8,6 @@ flood-requires c =
     let p = c.requires in
     unmarked_zeros _ _ _ (record { hypermap = p.both.hypermap; here = p.both.first }) (omega arith) max_capacity
     p.room p.room
-
-pub mark_of-requires : goal.mark_of-requires
-mark_of-requires c =
-    let b = c.requires.both.second in
-    record { low = low _ _ b; high = omega (arith, high _ _ b, c.flood.auto.marks) }
 
 pub returns : goal.returns
 returns c =

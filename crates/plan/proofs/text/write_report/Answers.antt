@@ -1,7 +1,6 @@
 use Rattle.std.proofs.Common.{◌≡◌, List, [], ◌∷◌, ◌++◌, ℕ, rules, arith, append_assoc}
 use Rattle.std.specs.Fmt.{decimal, signed_decimal}
 use Rattle.plan.specs.Lines.{report_line}
-use Rattle.plan.proofs.Appending.{appended}
 use Rattle.plan.proofs.Numerals.{decimal_formatted, signed_formatted}
 use Rattle.plan.proofs.text.write_report.Goals as goal
 
@@ -28,4 +27,4 @@ returns g c =
       regroup (32 ∷ []) (10 ∷ []) (decimal n.darts) (decimal n.edges) (decimal n.vertices) (decimal n.faces)
           (decimal n.components) (signed_decimal _) (decimal n.genus) (decimal n.lifts),
     )
-    (appended _ _ _ _ c.writeln.ensures.writes)
+    c.writeln.ensures.bytes

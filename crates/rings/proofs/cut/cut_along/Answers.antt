@@ -1,11 +1,10 @@
 use Rattle.std.proofs.Common.{[], arith}
 use Rattle.std.proofs.lemmas.List.{drop_more, drop_all}
-use Rattle.rings.proofs.Links.{chunks_links}
 use Rattle.rings.proofs.Cutting.{cutting_none, cutting_here, cutting_on, cutting_all}
 use Rattle.rings.proofs.cut.cut_along.Goals as goal
 
 pub loop-first-init : goal.loop-first-init
-loop-first-init c = rw (c.as_chunks.ensures.front, chunks_links c.args.ring.now) (cutting_none _ _ c.requires)
+loop-first-init c = cutting_none _ _ _ c.requires c.as_chunks.ensures.front
 
 pub swap-requires : goal.swap-requires
 swap-requires c =

@@ -9,4 +9,4 @@ use Rattle.rings.proofs.together.pairs_together.Given as goal
 abbrev pub invariant-loop-first : goal.invariant-loop-first
 invariant-loop-first l =
     pairs_together (hypermap_of l.table) (links_in l.links) ≡
-    all_links (λ k. eqb (mark_at l.marks k.first) (mark_at l.marks k.second)) (links_in (drop l.first-index l.links))
+    all_links (λ k. eqb (mark_at l.marks k.second) (mark_at l.marks k.first)) (links_in (drop l.first-index l.links))

@@ -21,6 +21,7 @@ returns c =
     let x = c.counts-c.result.characteristic in
     let z : of_z w32 (to_z w32 (of_z w32 x)) ≡ of_z w32 x = search rules in
     let h = c.as_flattened.ensures.value ∙ ap (flat_map (λ bs. bs)) c.numbers_in_bytes-head.ensures ∙ numbers_flat _ in
-    answer_laid _ _ c.counts-c.result _ _ _ _ _ c.counts-c.ensures (c.cast_unsigned.ensures ∙ z ∙ complement_is x)
-    c.requires.room (tape_fits _ c.requires.table.hypermap c.requires.table.room) h c.write_bytes-end.ensures
+    answer_laid _ _ _ c.counts-c.result _ _ _ _ _ c.into.ensures c.counts-c.ensures
+    (c.cast_unsigned.ensures ∙ z ∙ complement_is x) c.requires.room
+    (tape_fits _ c.requires.table.hypermap c.requires.table.room) h c.write_bytes-end.ensures
     c.write_tape.ensures.out

@@ -1,26 +1,12 @@
-use mathlib.Core.Path.{ap, ◌∙◌}
+use mathlib.Core.Path.{◌∙◌}
 use native.Mathlib.Omega.{arith}
-use lib.ListN.{length}
 use borrow.Author.Tests.{eq-eqb, ne_eqb}
-use Rattle.hypermap.specs.Hypermap.{of, orbit_of}
 use Rattle.hypermap.proofs.Basics.Bools.{and_left}
-use Rattle.table.specs.Layout.{hypermap_of}
 use Rattle.table.specs.Inner.{dimension_of}
-use Rattle.parts.proofs.LeastMarks.{marks_length}
-use Rattle.writer.proofs.Passing.{passing_none, passing_room, passing_yes, passing_no, passing_all, all_joins}
+use Rattle.writer.proofs.Passing.{passing_room, passing_yes, passing_no, passing_all, all_joins}
 use Rattle.writer.proofs.Passing.{first_test}
 use Rattle.writer.proofs.write.write_joins.Goals as goal
 use Rattle.writer.proofs.write.write_joins.Goals.{then-mark_of-x, else-mark_of-x}
-
-pub loop-x-init : goal.loop-x-init
-loop-x-init c =
-    passing_none _ _ _ _ _ (rw (all_joins _ _) at c.requires.room)
-
-pub mark_of-requires : goal.mark_of-requires
-mark_of-requires c =
-    let e = ap length c.requires.marked ∙
-    marks_length _ (orbit_of (hypermap_of c.args.table.now) (of (dimension_of c.args.d))) in
-    record { low = c.loop-x.invariant.low; high = omega arith }
 
 pub write_orbit_joins-at-requires : goal.write_orbit_joins-at-requires
 write_orbit_joins-at-requires c =
