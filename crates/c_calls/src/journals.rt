@@ -12,7 +12,8 @@ use journal_calls::Head;
 use journal_calls::c_replies::{Journaled, JournaledRun, Undone};
 use table::Change;
 
-// CHANGES
+// CHANGES: the first six differ in the change alone, and the seventh in the call and its argument. Each stays a
+// function with clauses of its own, since C calls it by its name, with its numbers.
 
 #[unsafe(no_mangle)]
 pub extern "C" fn lotskadi_journal_put(

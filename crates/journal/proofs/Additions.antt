@@ -1,6 +1,7 @@
 -- One change and one ring, made and written into the journal, or refused. Assumes nothing.
+use Rattle.std.specs.Bool.{⊤}
 use mathlib.Core.Path.{◌≡◌, refl, ap, sym, ◌∙◌}
-use mathlib.Core.Bool.{cond, true}
+use mathlib.Core.Bool.{true}
 use mathlib.Core.List.{List}
 use Prim.Native.Nat.{ℕ, ◌+◌, ◌-◌, ◌*◌, ◌/◌, ◌≤◌, ◌<◌}
 use native.Mathlib.Omega.{arith}
@@ -18,11 +19,10 @@ use Rattle.table.proofs.Replying.{number_positive, goes_on, fails, holds}
 use Rattle.table.proofs.Accepting.{put_passed, take_out_passed, join_passed, cut_passed}
 use Rattle.rings.proofs.Conditions.{accepted_listed}
 use Rattle.rings.specs.Rings.{links_of, cuts_of, ring_refusal, cut_along}
-use Rattle.tape.proofs.Playing.{leaves_is}
-use Rattle.tape.specs.Steps.{TapeCommand, changes, cuts_ring, step_refusal}
+use Rattle.tape.specs.Steps.{TapeCommand, changes, cuts_ring}
 use Rattle.journal.specs.Entries.{Journal, entry_of, with_entry, with_entries}
 use Rattle.journal.specs.Heads.{has_room, room_refusal}
-use Rattle.journal.specs.Journaling.{Recorded, changes_in, journaled_refusal, journaled_on}
+use Rattle.journal.specs.Journaling.{Recorded, journaled_refusal, journaled_on}
 use Rattle.journal.specs.Inner.{recorded, journaled_leaves, IsRoom, WritableChange, WithinJournal}
 use Rattle.journal.specs.Inner.{RoomForCuts}
 use Rattle.journal.proofs.CutEntries.{cuts_length}
@@ -132,17 +132,9 @@ module _ (w : Table) (j : Journal) (used : ℕ) (ws : List ℕ) where
         recorded v l (used + length ws / 2) ≡ journaled_on (recorded w j used) (cuts_ring ws)
     ring_written v q l p = rw (q, p, cuts_length ws)
 
--- WHAT THE CHECK TRIES BY ITSELF on a journaled command: the definitions, opened
-pub or_else_is : (n m : ℕ) → or_else n m ≡ cond (eqb n 0) m n
-unfolding or_else
-or_else_is n m = refl
+-- WHAT THE CHECK TRIES BY ITSELF on a journaled command: the definitions, opened by one name, and these facts
+unfoldable pub definitions : ⊤
+unfolding journaled_refusal or_else leaves
+definitions = tt
 
-pub journaled_is :
-    (s : Recorded) (c : TapeCommand) →
-    journaled_refusal s c ≡ or_else (step_refusal s.table c) (room_refusal s.journal s.used (length (changes_in c)))
-unfolding journaled_refusal
-journaled_is s c = refl
-
-pub ruleset journaling = (or_else_is, leaves_is, journaled_is, number_positive)
-
-pub ruleset ring_journaling = (journaling, cuts_length, ring_room, accepted_listed)
+pub ruleset ring_journaling = (number_positive, cuts_length, ring_room, accepted_listed)

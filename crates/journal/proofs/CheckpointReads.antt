@@ -1,6 +1,8 @@
 -- A checkpoint as code reads it. Assumes nothing.
-use mathlib.Core.Bool.{Bool, true, false, cond, not}
-use lib.Dec.{ltb, eqb}
+use Rattle.table.specs.Commands.{leaves}
+use Rattle.std.specs.Bool.{⊤}
+use mathlib.Core.Bool.{Bool, true, false, not}
+use lib.Dec.{eqb}
 use mathlib.Core.Path.{◌≡◌, refl, ◌∙◌}
 use mathlib.Core.List.{List, [], ◌∷◌}
 use Rattle.std.specs.Prelude.{Option, Some, None, MatchOption}
@@ -13,8 +15,7 @@ use native.Mathlib.Omega.{arith}
 use lib.ListN.{length, get_or}
 use borrow.Author.Tests.{lt-ltb, le-ltb}
 use Rattle.table.specs.Limits.{unset, checkpoint_count}
-use Rattle.table.specs.Refusals.{no_mark, unless}
-use Rattle.tape.proofs.Playing.{leaves_is}
+use Rattle.table.specs.Refusals.{unless}
 use Rattle.journal.specs.Heads.{checkpoint_of, back_refusal, set_refusal}
 use Rattle.journal.specs.Inner.{CheckpointRead}
 use Rattle.journal.specs.declared.Head.{Head}
@@ -48,9 +49,7 @@ module _ (h : Head) (c : ℕ) where
       let l : c < length h.checkpoints = i.3.0 in
       rw m (read_some p.now (omega (arith, z, l)) (i.1 ∙ any_default _ c p.now unset l) b (e _ _ k))
 
--- WHAT THE CHECK TRIES BY ITSELF on a checkpoint that is set
-pub set_refusal_is : (c : ℕ) → set_refusal c ≡ cond (ltb c checkpoint_count) 0 no_mark
-unfolding set_refusal unless
-set_refusal_is c = refl
-
-pub ruleset sets = (set_refusal_is, leaves_is)
+-- the definitions that the check opens by itself on a checkpoint that is set, by one name
+unfoldable pub definitions : ⊤
+unfolding set_refusal unless leaves
+definitions = tt

@@ -1,11 +1,7 @@
 -- One entry undone, by its byte, and the loop that goes back entry by entry. Assumes nothing.
+use Rattle.std.specs.Bool.{⊤}
 use mathlib.Core.Path.{◌≡◌, refl, ap, sym, ◌∙◌}
-use mathlib.Core.Bool.{cond, true, false, ◌&&◌}
-use Rattle.std.specs.Prelude.{Result, Ok, Err, MatchResult, IsErrAnd, is_ok}
-use Rattle.table.specs.Replies.{reply}
-use Rattle.table.specs.declared.refusals.Refusal.{Refusal}
-use Rattle.tape.specs.Replies.{run_reply}
-use Rattle.tape.specs.declared.Stopped.{Stopped}
+use mathlib.Core.Bool.{false, ◌&&◌}
 use mathlib.Core.List.{◌∷◌}
 use Prim.Native.Nat.{ℕ, zero, suc, ◌+◌, ◌-◌, ◌*◌, ◌≤◌, ◌<◌}
 use native.Mathlib.Omega.{arith}
@@ -21,12 +17,10 @@ use Rattle.table.specs.Commands.{opposite, command_refusal, leaves}
 use Rattle.table.specs.Runs.{run_by, rule_leaves}
 use Rattle.table.specs.Inner.{WithinCapacity}
 use Rattle.table.proofs.Stages.{fitting}
-use Rattle.table.proofs.Replying.{number_positive}
 use Rattle.table.proofs.Commands.{keeps_hypermap_law}
 use Rattle.table.proofs.Runs.{run_law, run_stops, run_goes_on, later, later_one, later_stopped}
 use Rattle.journal.specs.Entries.{Journal, Entry, is_change, command_in, entry_at}
 use Rattle.journal.specs.Undoing.{undo_refusal, undo_on, undo_rule, latest_first, undoing}
-use Rattle.tape.proofs.Playing.{leaves_is}
 use Rattle.tape.specs.Tapes.{operand_sizes, is_command}
 use Rattle.journal.specs.Inner.{entry}
 
@@ -40,14 +34,10 @@ no_change byte a b e =
     let h = leb-true byte 6 (and_right (leb 1 byte) _ i) in
     false≢true (sym e ∙ rw (le-leb 1 byte l, lt-ltb byte 9 (omega arith))))
 
--- WHAT THE CHECK TRIES BY ITSELF on one entry: the definitions, opened
-pub undo_refusal_is :
-    (w : Table) (y : Entry) →
-    undo_refusal w y ≡ cond (is_change y && eqb (command_refusal w (opposite (command_in y))) 0) 0 undo_unfit
-unfolding undo_refusal unless
-undo_refusal_is w y = refl
-
-pub ruleset undoings = (undo_refusal_is, leaves_is, number_positive)
+-- the definitions that the check opens by itself on one entry, by one name
+unfoldable pub definitions : ⊤
+unfolding undo_refusal unless leaves
+definitions = tt
 
 -- an entry that is undone has an opposite command that is accepted
 pub undo_passed : (w : Table) (y : Entry) → undo_refusal w y ≡ 0 → command_refusal w (opposite (command_in y)) ≡ 0
@@ -132,17 +122,3 @@ module _
               ap (later (used - n)) (run_goes_on undo_rule y _ w 0 a) ∙ later_one (used - n) _ ∙
               ap (λ c. later c (undoing (undo_on w y) j to (n - 1 - to))) k;
         })
-
--- AN ANSWER whose refusal is made what stops the run, after k entries
-pub kept_on : (r : Result (Unit {0}) Refusal) → true ≡ is_ok r → reply r ≡ 0
-kept_on (Ok u) e = refl
-kept_on (Err d) e = absurd (false≢true (sym e))
-
-pub stopped_after :
-    (r : Result (Unit {0}) Refusal) (k : ℕ) (s : Stopped) (x : Result ℕ Stopped) (Goes : Unit {0} → Type 0)
-    (Stops : Refusal → Type 0) → MatchResult r Goes Stops →
-    ((d : Refusal) → Stops d → s ≡ record { refusal = d; accepted = k }) → IsErrAnd x (λ t. t ≡ s) →
-    false ≡ is_ok r → (reply r ≡ 0 → ⊥) × (run_reply x ≡ record { number = reply r; accepted = k })
-stopped_after (Ok u) k s x Goes Stops m f i e = absurd (false≢true e)
-stopped_after (Err d) k s (Ok n) Goes Stops m f i e = absurd i
-stopped_after (Err d) k s (Err t) Goes Stops m f i e = (number_positive d, rw (i, f d m) refl)

@@ -61,7 +61,7 @@ impl Head {
     }
 
     // Checkpoint c is set at the length, or moved there.
-    #[tactic(auto, using(crate::proofs::CheckpointReads::sets))]
+    #[tactic(auto, unfolding(crate::proofs::CheckpointReads::definitions))]
     pub fn set_checkpoint(&mut self, c: u32) -> Result<(), Refusal>
         ensures value { reply result ≡ set_refusal c }
         ensures head { self.new ≡

@@ -60,7 +60,7 @@ impl JournaledTable<'_> {
 
     // The ring's own refusals, then 18, journal full, where the entries of its cuts do not fit.
     #[inline(always)]
-    #[tactic(auto, using(crate::proofs::Additions::ring_journaling))]
+    #[tactic(auto, using(crate::proofs::Additions::ring_journaling), unfolding(crate::proofs::Additions::definitions))]
     fn judge_ring(&self, ring: &[u16]) -> Result<(), Refusal>
         ensures { reply result ≡ journaled_refusal
             (recorded self.now.table.now self.now.journal.now self.now.used.now) (cuts_ring ring.now) }
@@ -88,7 +88,7 @@ impl Machine for JournaledTable<'_> {
     ghost keeps_report = { λ m. report_adds_nothing _ _ _ };
 
     #[inline(always)]
-    #[tactic(auto, using(crate::proofs::Additions::journaling))]
+    #[tactic(auto, using(table::proofs::Replying::number_positive), unfolding(crate::proofs::Additions::definitions))]
     fn perform(&mut self, change: Change) -> Result<(), Refusal> {
         let room = self.judge_room(1);
         changes::perform_with(self.table, change, room)?;
@@ -99,7 +99,7 @@ impl Machine for JournaledTable<'_> {
 
     // All of its cuts have entries, or nothing changes.
     #[inline(always)]
-    #[tactic(auto, using(crate::proofs::Additions::ring_journaling))]
+    #[tactic(auto, using(crate::proofs::Additions::ring_journaling), unfolding(crate::proofs::Additions::definitions))]
     fn cut_ring(&mut self, ring: &[u16]) -> Result<(), Refusal> {
         self.judge_ring(ring)?;
         cut::cut_along(self.table, ring);

@@ -14,7 +14,7 @@ use table::refusals::Refusal;
 use tape::Stopped;
 
 // Undoes entry n, or answers 17, undo unfit: where it records no change, or where the opposite command is refused.
-#[tactic(auto, using(crate::proofs::Undoings::undoings))]
+#[tactic(auto, using(table::proofs::Replying::number_positive), unfolding(crate::proofs::Undoings::definitions))]
 fn undo_entry(table: &mut [u16], journal: &[u16], n: u32) -> Result<(), Refusal>
     requires { EntryThere table.old journal.now n }
     ensures value { reply result ≡ undo_refusal table.old (entry_at journal.now n) }

@@ -50,9 +50,10 @@ pub fn make_change(
     machine.perform(change)
 }
 
-// A RING, lent as a list of words. The entries of all its cuts fit, or nothing changes. Like `make_change`, but
-// for the machine's method and its argument: one function for both would take these as a closure, and each call would
-// still have its two clauses.
+// A RING, lent as a list of words. The entries of all its cuts fit, or nothing changes. Like `make_change`, but for the
+// machine's method and its argument. One function for both would take these as a closure, and require of it that the
+// machine keeps its three references. A function that makes the machine alone was tried: it has seven clauses, since
+// its callers must know which references the machine holds, and leaves a goal in each of the two.
 
 #[tactic(auto, using(crate::proofs::Replies::performing))]
 pub fn ring_cut(

@@ -1,7 +1,7 @@
 // The kernel's public calls: the whole of what a caller may use. None has a `requires`: whatever words are lent and
 // whatever numbers come, each call answers, and its contract says what, and what every lent word is afterwards.
 
-#![tactic(auto, using(crate::proofs::Opening::calls))]
+#![tactic(auto, using(crate::proofs::Opening::calls), unfolding(crate::proofs::Opening::definitions))]
 
 ghost use Rattle.std.specs.Prelude.{◌≡◌};
 ghost use Rattle.table.specs.Commands.{puts, takes_out, joins, cuts};
@@ -118,7 +118,6 @@ pub fn cut(table: &mut [u16], d: Dimension, a: u32, b: u32) -> Result<(), Refusa
 
 // Cuts the edge of each double-link of a ring, lent as a list of words: the two darts of each double-link in turn.
 // Document 01: the ring cut, crossing by crossing.
-#[tactic(auto, using(crate::proofs::Opening::calls), unfolding(crate::specs::Calls::ring_call_refusal))]
 pub fn ring_cut(table: &mut [u16], ring: &[u16]) -> Result<(), Refusal>
     ensures value { reply result ≡ ring_call_refusal table.old ring.now }
     ensures table { table.new ≡ ring_call_leaves table.old ring.now }
@@ -188,7 +187,6 @@ pub fn component_marks(table: &[u16], out: &mut [u16]) -> Result<u32, Refusal>
 
 // The words of dart x in the table, not a copy: the part returned begins at their place in the lent memory. It is
 // empty, in place of a refusal, where the question "same tie as itself" is refused: this is the form of document 01.
-#[tactic(auto, using(crate::proofs::Opening::calls), unfolding(crate::specs::Calls::look_place))]
 pub fn look<'a>(table: &'a [u16], x: u32) -> &'a [u16]
     ensures result_value { result.now ≡ look_of table.now x }
     ensures place { result.ref_ptr ≡ look_place table.now x table.entry.ref_ptr }

@@ -1,16 +1,16 @@
 -- The greatest of a list, and of the numbers that a ring names on a tape, one after the other. Assumes nothing.
-use mathlib.Core.Path.{◌≡◌, refl, sym, ap, ◌∙◌}
-use mathlib.Core.List.{List, [], ◌∷◌, ◌++◌}
-use Prim.Native.Nat.{ℕ, suc, max, ◌+◌, ◌*◌, ◌-◌, ◌≤◌, ◌<◌}
-use native.Mathlib.Numerals.{add-one}
+use mathlib.Core.Path.{◌≡◌, sym, ◌∙◌}
+use mathlib.Core.List.{List, [], ◌∷◌, ◌++◌, map}
+use Prim.Native.Nat.{ℕ, zero, suc, max, ◌+◌, ◌*◌, ◌-◌}
 use native.Mathlib.Omega.{arith}
+use Rattle.std.specs.List.{fold, reduce, range_with_len}
+use Rattle.std.specs.Option.{unwrap_or}
+use Rattle.std.specs.Ordering.{nat_cmp, max_by_ordering}
+use Rattle.std.proofs.lemmas.List.Folds.{max_of_map}
 use lib.Dec.{ltb}
-use lib.ListN.{length, get_or, take}
-use lib.Seq.{take_all, take-suc}
 use borrow.Author.Tests.{ltb-true, ltb-false}
 use Rattle.hypermap.proofs.Basics.Bools.{by_cases}
 use Rattle.tape.specs.Tapes.{number_at, numbers_from}
-use Rattle.tape.proofs.Decoding.{numbers_length, numbers_at}
 use Rattle.needs.specs.Amounts.{larger, greatest}
 
 -- THE LARGER of two, in arithmetic
@@ -39,36 +39,24 @@ unfolding greatest
 greatest_append [] ys = sym (zero_larger (greatest ys))
 greatest_append (x ∷ xs) ys = rw (greatest_append xs ys) (larger_assoc x (greatest xs) (greatest ys))
 
--- THE SEARCH: the greatest of the first k numbers
-pub record Seeking (tape : List ℕ) (n found k : ℕ) : Type 0 where
-  pub within : k ≤ n
-  pub greatest_so_far : found ≡ greatest (take k (numbers_from n 2 tape))
+-- THE SEARCH: the greatest of the numbers, one after the other
+search_from :
+    (tape : List ℕ) (n k i found : ℕ) → i ≡ 2 + 2 * k →
+    fold (λ a j. max a (number_at tape (2 + 2 * j))) found (range_with_len k n) ≡
+    larger found (greatest (numbers_from n i tape))
+unfolding numbers_from greatest
+search_from tape zero k i found e = sym (larger_zero found)
+search_from tape (suc n) k i found e =
+    let x = number_at tape (2 + 2 * k) in
+    rw (search_from tape n (k + 1) (i + 2) (max found x) (omega arith), max_larger found x, e)
+    (sym (larger_assoc found x _))
 
-pub seeking_first : (tape : List ℕ) (n : ℕ) → Seeking tape n 0 0
-unfolding greatest
-seeking_first tape n = record { within = omega arith; greatest_so_far = refl }
-
-module _ (tape : List ℕ) (n found k : ℕ) (h : Seeking tape n found k) where
-  pub seeking_on : (x r : ℕ) → k < n → x ≡ number_at tape (2 + 2 * k) → r ≡ larger found x → Seeking tape n r (k + 1)
-  unfolding greatest
-  seeking_on x r l e f =
-      let ns = numbers_from n 2 tape in
-      let s : length ns ≡ n = numbers_length n 2 tape in
-      let v : get_or ns k 0 ≡ x = numbers_at n 2 tape k l ∙ sym e in
-      let t : take (suc k) ns ≡ take k ns ++ (x ∷ []) = rw v at (take-suc ns k 0 (omega arith)) in
-      record {
-        within = omega arith;
-        greatest_so_far =
-            f ∙
-            rw (add-one, t, greatest_append (take k ns) (x ∷ []), larger_zero x)
-            (ap (λ m. larger m x) h.greatest_so_far);
-      }
-
-  pub seeking_end : n ≤ k → found ≡ greatest (numbers_from n 2 tape)
-  seeking_end l =
-      let ns = numbers_from n 2 tape in
-      let s : length ns ≡ n = numbers_length n 2 tape in
-      let w = h.within in
-      h.greatest_so_far ∙ ap greatest (take_all k ns (omega arith))
-
-pub ruleset seeking = (seeking_first, seeking_on, seeking_end, max_larger)
+pub greatest_found :
+    (tape : List ℕ) (n r : ℕ) →
+    r ≡
+    unwrap_or
+    (reduce (λ p z. max_by_ordering (nat_cmp p z) p z) (map (λ k. number_at tape (2 + 2 * k)) (range_with_len 0 n))) 0 →
+    r ≡ greatest (numbers_from n 2 tape)
+greatest_found tape n r e =
+    e ∙ max_of_map (λ k. number_at tape (2 + 2 * k)) (range_with_len 0 n) ∙
+    search_from tape n 0 2 0 (omega arith) ∙ zero_larger _

@@ -26,8 +26,9 @@ abbrev pub one_more : Tally → (g n : ℕ) → Tally
 one_more t g n =
     record t { capacity = larger t.capacity g; commands = t.commands + 1; changes = t.changes + n }
 
--- the counts of a tape that is not too long. No plainer as a ghost field of Tally: tried, and `..self` and the
--- derived `Default` are refused with one
+-- the counts of a tape that is not too long. Not a ghost field of Tally: of counts at their bounds one more command
+-- makes counts above them, and only the loop over the tape shows that none gets there. It was tried besides: `..self`
+-- is refused where a struct has a ghost field
 pub record Countable (t : Tally) : Type 0 where
   pub commands : t.commands ≤ max_tape
   pub peak : t.peak ≤ max_tape

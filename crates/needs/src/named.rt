@@ -7,14 +7,12 @@ ghost use Rattle.needs.specs.Amounts.{greatest};
 use tape::decode;
 
 // The greatest of n numbers of a tape from its third byte on.
-#[tactic(auto, using(crate::proofs::Greatest::seeking), unfolding(crate::specs::Amounts::greatest))]
 pub fn greatest_number(tape: &[u8], n: usize) -> u16
     requires { n ≤ max_tape_ring }
     ensures { result ≡ greatest (numbers_from n 2 tape.now) }
 {
-    let mut found: u16 = 0;
-    for k in 0..n {
-        found = found.max(decode::number_at(tape, 2 + 2 * k));
-    }
-    found
+    (0..n)
+        .map(|k| decode::number_at(tape, 2 + 2 * k))
+        .max()
+        .unwrap_or(0)
 }

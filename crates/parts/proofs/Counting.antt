@@ -8,12 +8,14 @@ use native.Mathlib.Numerals.{add-one}
 use native.Mathlib.Omega.{arith}
 use lib.ListN.{length, get_or, take, drop, replicate}
 use lib.Seq.{length-take-le, drop-cons}
-use Rattle.std.specs.List.{filter}
+use lib.Dec.{ltb}
+use borrow.Author.Tests.{le-leb}
+use Rattle.std.specs.List.{filter, range_with_len}
 use Rattle.hypermap.specs.Lists.{keep, sum_of}
 use Rattle.hypermap.proofs.Basics.Bools.{by_cases}
 use Rattle.hypermap.proofs.Basics.Sums.{sum_ones}
-use Rattle.table.specs.Limits.{max_capacity}
-use Rattle.table.specs.Layout.{up_from}
+use Rattle.table.specs.Limits.{max_capacity, edge_next}
+use Rattle.table.specs.Layout.{Table, capacity, up_from, word_at, is_present}
 
 -- of the numbers from 1 to n that pass p, what f gives is added up below x
 pub record Summing (n : ℕ) (p : ℕ → Bool) (f : ℕ → ℕ) (x total : ℕ) : Type 0 where
@@ -69,6 +71,17 @@ module _ (n : ℕ) (p : ℕ → Bool) (x count : ℕ) (c : Counting n p x count)
   pub counting_all : n < x → count ≡ length (keep p (up_from 1 n))
   counting_all h =
       summing_all n p (λ y. 1) x count c.ones h ∙ sum_ones (λ y. 1) (keep p (up_from 1 n)) (λ y m. refl)
+
+-- the darts, kept by the library's filter of a range, which looks at a word alone
+pub darts_kept :
+    (w : Table) (a n : ℕ) → 1 ≤ a → a + n ≤ capacity w + 1 →
+    filter (λ x. ltb 0 (word_at w x edge_next)) (range_with_len a n) ≡ keep (is_present w) (up_from a n)
+unfolding keep up_from is_present
+darts_kept w a zero l h = refl
+darts_kept w a (suc n) l h =
+    let r = darts_kept w (suc a) n (omega arith) (omega arith) in
+    rw (add-one a, le-leb 1 a l, le-leb a (capacity w) (omega arith))
+    (by_cases (ltb 0 (word_at w a edge_next)) (λ t. rw t (ap (λ u. a ∷ u) r)) (λ t. rw t r))
 
 -- two tests in turn are one
 pub keep_both : (p q : ℕ → Bool) (xs : List ℕ) → keep q (keep p xs) ≡ keep (λ x. p x && q x) xs

@@ -21,13 +21,10 @@ pub fn count_darts(table: &[u16]) -> u32
     requires { WithinCapacity table.now }
     ensures { result ≡ length (hypermap_of table.now).darts }
 {
-    let mut count = 0;
-    for x in 1..words::numbers_end(table) {
-        if words::is_dart(table, u32::from(x)) {
-            count += 1;
-        }
-    }
-    count
+    // `as`: the library has no `From<usize>` for `u32`, and `try_from` would add a branch that panics.
+    (1..words::numbers_end(table))
+        .filter(|x| words::is_dart(table, u32::from(*x)))
+        .count() as u32
 }
 
 // LIFTS: the components of at least two darts

@@ -15,8 +15,8 @@ use table::words;
 
 // Writes value at each dart of the face of y, and the dart's edge predecessor into the queue, from `tail` on. The
 // result is the new tail. Queue and tail stay two values, and the tail is counted by hand: the queue is fixed memory,
-// never emptied, and read while it grows. A struct of both would have to say in each contract that it still holds the
-// same queue.
+// never emptied, and read while it grows. An `ArrayVec`, which keeps its length in memory and writes blanks where it is
+// emptied, was tried in the plain Rust of the benchmark: a report takes 1.02 to 1.06 of the time.
 pub fn enter(
     table: &[u16],
     y: u16,

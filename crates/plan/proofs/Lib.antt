@@ -1,4 +1,3 @@
-pub mod Buffers
 pub mod Numerals
 pub mod Lines
 pub mod Taking

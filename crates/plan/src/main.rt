@@ -10,6 +10,7 @@ ghost use Rattle.tape.specs.Runs.{run_of};
 ghost use Rattle.plan.specs.Lines.{lines_of, tape_lines};
 ghost use Rattle.plan.specs.Buffers.{written};
 
+use arrayvec::ArrayVec;
 use buffered::Buffered;
 use std::io::{self, Read, Write};
 use table::limits::{MAX_TAPE, MAX_WORDS};
@@ -69,25 +70,9 @@ fn write_lines<W: Write, const N: usize>(lines: &mut Buffered<W, N>, tape: &[u8]
     lines.finish()
 }
 
-// Reads until the buffer is full or the input ends, and answers how many bytes came.
-// By hand: the library reads to the end of an input only into memory of the heap.
-fn read_full<R: Read>(input: &mut R, bytes: &mut [u8]) -> io::Result<usize>
-    ensures { IfOk result (λ n. n ≤ length bytes.new) }
-{
-    let mut n = 0;
-    while n < bytes.len() {
-        let read = input.read(&mut bytes[n..])?;
-        if read == 0 {
-            return Ok(n);
-        }
-        n += read;
-    }
-    Ok(n)
-}
-
 fn main(rt: HostRuntime) -> io::Result<()> {
-    let mut tape = [0u8; READ_BYTES]; // fixed memory: no heap
-    let n = read_full(&mut rt.stdin(), &mut tape)?;
+    let mut tape = ArrayVec::<u8, READ_BYTES>::new();
+    io::copy(&mut rt.stdin().take(READ_BYTES as u64), &mut tape)?;
     let mut lines = Buffered::<_, BUFFER_BYTES>::new(io::writer(&rt));
-    write_lines(&mut lines, &tape[..n])
+    write_lines(&mut lines, &tape)
 }

@@ -1,16 +1,16 @@
 -- The pairs of the first double-links: how they grow by one, and what is cut along the words of those that fit. Assumes
 -- nothing.
-use mathlib.Core.Path.{◌≡◌, refl, sym, ap, ◌∙◌}
+use mathlib.Core.Path.{◌≡◌, refl, sym, ap}
 use mathlib.Core.Bool.{Bool, true, false, cond}
-use mathlib.Core.List.{List, [], ◌∷◌, map}
+use mathlib.Core.List.{List, [], ◌∷◌, ◌++◌, map}
 use Rattle.std.proofs.Common.{flat_map}
 use Prim.Native.Nat.{ℕ, ◌+◌, ◌*◌, ◌<◌}
 use native.Mathlib.Omega.{arith}
 use lib.Dec.{ltb}
 use borrow.Author.Tests.{ltb-true}
-use lib.ListN.{length, get_or, take, set, length-set}
+use lib.ListN.{length, get_or, take}
 use lib.Seq.{take-length}
-use Rattle.std.proofs.lemmas.List.{take_all, take_more, take_more_set, map-append, length-take-le}
+use Rattle.std.proofs.lemmas.List.{take_all, take_more, map-append, length-take-le}
 use Rattle.table.specs.Limits.{max_double_links, max_ring}
 use Rattle.table.specs.Layout.{Table}
 use Rattle.tape.specs.Steps.{cuts_ring}
@@ -20,38 +20,19 @@ use Rattle.journal_calls.specs.Calls.{State, perform_reply}
 use Rattle.records.specs.Records.{words_of, fitted}
 use Rattle.records.proofs.Calls.{long_as_none, journaled_long_as_none}
 
--- THE COPY: the first k double-links stand as pairs in front
+-- THE COPY: the first k double-links as pairs
 abbrev pub pair_of : DoubleLink → List ℕ
 pair_of l = l.first ∷ l.second ∷ []
 
-pub record Copied (ls : List DoubleLink) (ps : List (List ℕ)) (k : ℕ) : Type 0 where
-  pub size : length ps ≡ max_double_links
-  pub pairs : take k ps ≡ map pair_of (take k ls)
+pub pairs_more :
+    (ls : List DoubleLink) (k : ℕ) (d : DoubleLink) → k < length ls →
+    map pair_of (take k ls) ++ pair_of (get_or ls k d) ∷ [] ≡ map pair_of (take (k + 1) ls)
+pairs_more ls k d l = rw (take_more ls k d l) (sym (map-append pair_of (take k ls) (get_or ls k d ∷ [])))
 
-pub copied_none : (ls : List DoubleLink) (ps : List (List ℕ)) → length ps ≡ max_double_links → Copied ls ps 0
-copied_none ls ps e = record { size = e; pairs = refl }
-
-pub copied_on :
-    (ls : List DoubleLink) (ps : List (List ℕ)) (k : ℕ) (d : DoubleLink) → Copied ls ps k → k < length ls →
-    k < max_double_links → Copied ls (set ps k (pair_of (get_or ls k d))) (k + 1)
-copied_on ls ps k d c l m = record {
-  size = rw (length-set) c.size;
-  pairs = rw (take_more_set ps k (pair_of (get_or ls k d)) (omega (arith, c.size)), take_more ls k d l, c.pairs)
-      (sym (map-append pair_of (take k ls) (get_or ls k d ∷ [])));
-}
-
-words_in_pairs : (ls : List DoubleLink) → flat_map (λ p. p) (map pair_of ls) ≡ words_of ls
+pub words_in_pairs : (ls : List DoubleLink) → flat_map (λ p. p) (map pair_of ls) ≡ words_of ls
 unfolding words_of
 words_in_pairs [] = refl
 words_in_pairs (l ∷ ls) = ap (λ (ws : List ℕ). l.first ∷ l.second ∷ ws) (words_in_pairs ls)
-
-pub copied_words :
-    (ls : List DoubleLink) (ps : List (List ℕ)) (k n : ℕ) → Copied ls ps k → k ≡ length ls → n ≡ length ls →
-    flat_map (λ p. p) (take n ps) ≡ words_of ls
-copied_words ls ps k n c e f =
-    let p : take n ps ≡ map pair_of ls =
-    rw (f, ← e) (c.pairs ∙ ap (map pair_of) (take_all k ls (omega (arith, e)))) in
-    rw p (words_in_pairs ls)
 
 length_words : (ls : List DoubleLink) → length (words_of ls) ≡ 2 * length ls
 unfolding words_of
@@ -82,6 +63,6 @@ module _ (ws : List ℕ) (ls : List DoubleLink) (e : ws ≡ words_of (take (fitt
   pub fitted_reply : (s : State) → perform_reply s (cuts_ring ws) ≡ perform_reply s (cuts_ring (words_of ls))
   fitted_reply s = rw e (fitted_same (λ us. perform_reply s (cuts_ring us)) (journaled_long_as_none s) ls)
 
-pub ruleset copying = (length-take-le, copied_none, copied_on, copied_words)
+pub ruleset copying = (length-take-le, pairs_more, words_in_pairs, take_all)
 
 pub ruleset fitting = (fitted_refusal, fitted_leaves, fitted_reply)

@@ -1,10 +1,11 @@
 // The words of a ring that is lent as records. Of a ring that is too long no word is copied: `ring_cut` answers an
 // empty list as it answers one that is too long.
-ghost use Rattle.std.specs.Prelude.{◌≡◌, ◌≤◌, length, take};
+ghost use Rattle.std.specs.Prelude.{◌≡◌, ◌≤◌, flat_map, length, take};
 ghost use Rattle.table.specs.Limits.{max_double_links};
 ghost use Rattle.records.specs.Records.{fitted, words_of};
 
 use crate::DoubleLink;
+use arrayvec::ArrayVec;
 use table::limits::MAX_DOUBLE_LINKS;
 
 // How many of n double-links are copied: all, or none where they are too many.
@@ -17,16 +18,14 @@ fn fit(n: usize) -> usize
     if MAX_DOUBLE_LINKS < n { 0 } else { n }
 }
 
-// The words of the double-links that fit, at the front of the pairs.
+// The pairs of the double-links that fit.
 #[tactic(auto, using(crate::proofs::Words::copying))]
-pub fn flatten<'a>(ring: &[DoubleLink], pairs: &'a mut [[u16; 2]; MAX_DOUBLE_LINKS]) -> &'a [u16]
-    ensures { result.now ≡ words_of (take (fitted (length ring.now)) ring.now) }
+pub fn copy_pairs(ring: &[DoubleLink]) -> ArrayVec<[u16; 2], MAX_DOUBLE_LINKS>
+    ensures { flat_map (λ p. p) result.items ≡ words_of (take (fitted (length ring.now)) ring.now) }
 {
-    let n = fit(ring.len());
-    // By index: with `pairs.iter_mut().zip(..)` the pairs are lent during the loop, so that its invariant cannot name
-    // them. That was tried, and the proof did not close.
-    for (k, link) in ring[..n].iter().enumerate() {
-        pairs[k] = [link.first, link.second];
+    let mut pairs = ArrayVec::new(); // fixed memory: no heap
+    for link in &ring[..fit(ring.len())] {
+        pairs.push([link.first, link.second]);
     }
-    pairs[..n].as_flattened()
+    pairs
 }

@@ -28,7 +28,7 @@ fn is_sound(table: &[u16]) -> bool
 
 // 1 for a wrong size, 2 for a table that is not sound. Never inlined: a table is judged once a call, and out of line
 // the loop is compiled once and takes 0.86 of the time (docs/DECISIONS.md, "Hints on inlining").
-#[tactic(auto, using(table::proofs::Stages::stages), unfolding(crate::specs::Soundness::table_refusal))]
+#[tactic(auto, unfolding(crate::specs::Soundness::table_refusal, table::proofs::Stages::definitions))]
 #[inline(never)]
 pub fn judge_table(table: &[u16]) -> Result<(), Refusal>
     ensures { reply result ≡ table_refusal table.now }
@@ -43,7 +43,7 @@ pub fn judge_table(table: &[u16]) -> Result<(), Refusal>
 }
 
 // 1 for a tape that is too long.
-#[tactic(auto, using(table::proofs::Stages::stages), unfolding(crate::specs::Soundness::tape_refusal))]
+#[tactic(auto, unfolding(crate::specs::Soundness::tape_refusal, table::proofs::Stages::definitions))]
 pub fn judge_tape(tape: &[u8]) -> Result<(), Refusal>
     ensures { reply result ≡ tape_refusal tape.now }
 {

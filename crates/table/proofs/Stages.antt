@@ -1,6 +1,7 @@
 -- Refusals in order: what a refusal of 0 says of each stage, and how the stages of code put together give a
 -- definition's. Assumes nothing.
-use Rattle.std.proofs.Common.{◌≡◌, ℕ, ◌<◌, Bool, true, false, cond, ◌&&◌, eqb, List, [], ◌∷◌, sym, refl, ap, ◌∙◌}
+use Rattle.std.specs.Bool.{⊤}
+use Rattle.std.proofs.Common.{◌≡◌, ℕ, ◌<◌, Bool, true, false, ◌&&◌, eqb, List, [], ◌∷◌, sym, refl, ap, ◌∙◌}
 use Rattle.std.proofs.Common.{arith, eq-eqb, ne_eqb, eqb-true}
 use borrow.Author.Tests.{eqb-false}
 use Rattle.hypermap.specs.Lists.{all}
@@ -105,17 +106,9 @@ pub made :
     {S : Type 0} (n m r : ℕ) (u v w : S) → m ≡ n → (r ≡ m) × (u ≡ leaves m v w) → (r ≡ n) × (u ≡ leaves n v w)
 made n m r u v w e p = (p.0 ∙ e, p.1 ∙ ap (λ i. leaves i v w) e)
 
--- WHAT THE CHECK TRIES BY ITSELF on stages: their definitions, opened
-pub or_else_is : (n m : ℕ) → or_else n m ≡ cond (eqb n 0) m n
-unfolding or_else
-or_else_is n m = refl
+-- WHAT THE CHECK TRIES BY ITSELF on stages: their definitions, opened by one name, and these facts
+unfoldable pub definitions : ⊤
+unfolding or_else unless leaves
+definitions = tt
 
-pub unless_is : (t : Bool) (n : ℕ) → unless t n ≡ cond t 0 n
-unfolding unless
-unless_is t n = refl
-
-pub leaves_is : {S : Type 0} (n : ℕ) (v w : S) → leaves n v w ≡ cond (eqb n 0) v w
-unfolding leaves
-leaves_is n v w = refl
-
-pub ruleset stages = (or_else_is, unless_is, leaves_is, alone, one_presence, two_presence)
+pub ruleset stages = (alone, one_presence, two_presence)

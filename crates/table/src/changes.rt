@@ -1,6 +1,6 @@
 // A change of a table: whether it is refused, the words that it writes, and both in turn. Document 01's refusals 1 and
 // 2 are the caller's.
-#![tactic(auto, using(crate::proofs::Accepting::judging))]
+#![tactic(auto, using(crate::proofs::Accepting::judging), unfolding(crate::proofs::Accepting::definitions))]
 
 ghost use Rattle.std.specs.Prelude.{◌≡◌, [], ◌∷◌};
 ghost use Rattle.table.specs.Limits.{edge_next};

@@ -33,15 +33,9 @@ fn half_fits(table: &[u16], x: u16) -> bool
     }
 }
 
-#[tactic(auto, using(crate::proofs::HalfTest::passes))]
 pub fn holds_hypermap(table: &[u16]) -> bool
     requires { capacity table.now < max_word }
     ensures { result ≡ holds_hypermap table.now }
 {
-    for x in 1..words::numbers_end(table) {
-        if !half_fits(table, x) {
-            return false;
-        }
-    }
-    true
+    (1..words::numbers_end(table)).all(|x| half_fits(table, x))
 }

@@ -4,20 +4,18 @@ ghost use Rattle.table.specs.Commands.{with_all, swapped};
 ghost use Rattle.table.specs.Limits.{edge_next};
 ghost use Rattle.table.specs.Inner.{InTable, HypermapAtBoth, dimension_of};
 
-use crate::limits::{EDGE_BACK, EDGE_NEXT, VERTEX_BACK, VERTEX_NEXT};
+use crate::limits::{EDGE_NEXT, WORDS_PER_DART};
 use crate::words::{BACK, NEXT};
 use crate::{Dimension, words};
 
 // The four words of dart x.
-#[tactic(auto, unfolding(crate::specs::Commands::with_all))]
+#[tactic(auto, using(crate::proofs::Writing::all_filled))]
 pub fn set_all(table: &mut [u16], x: u16, value: u16)
     requires { InTable table.old x edge_next }
     ensures { table.new ≡ with_all x value table.old }
 {
-    words::set_word(table, x, VERTEX_BACK, value);
-    words::set_word(table, x, VERTEX_NEXT, value);
-    words::set_word(table, x, EDGE_BACK, value);
-    words::set_word(table, x, EDGE_NEXT, value);
+    let at = words::place_of(u32::from(x), EDGE_NEXT);
+    table[at..at + WORDS_PER_DART].fill(value);
 }
 
 // The change of Definition 2.8: a join or a cut.

@@ -27,7 +27,9 @@ pub fn capacity_of(table: &[u16]) -> usize
     table.len() / WORDS_PER_DART
 }
 
-// One more than the capacity: where a pass over the numbers of a table ends.
+// One more than the capacity: where a pass over the numbers of a table ends. Not the capacity, for passes over `1..=`:
+// with these the test of a table takes 1.33 of the time, and writing a tape 1.05 by its two loops and 1.07 by
+// `count_darts`. The loops of `parts` take no longer, but each has a goal more to prove.
 pub fn numbers_end(table: &[u16]) -> u16
     requires { capacity table.now < max_word }
     ensures { result ≡ capacity table.now + 1 }

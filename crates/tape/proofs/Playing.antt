@@ -1,21 +1,22 @@
 -- A tape played a command at a time, for any rule: the run so far, and how each command carries it on or ends it.
 -- Assumes nothing.
+use Rattle.std.specs.Bool.{⊤}
 use mathlib.Core.Path.{◌≡◌, refl, sym, ap, ◌∙◌}
 use mathlib.Core.List.{List}
 use Prim.Native.Nat.{ℕ, ◌+◌, ◌-◌, ◌≤◌, ◌<◌}
 use native.Mathlib.Omega.{arith}
 use lib.ListN.{length, take, drop}
-use mathlib.Core.Bool.{Bool, true, false, cond}
+use mathlib.Core.Bool.{Bool, true, false}
 use borrow.Author.Tests.{eq-eqb, ne_eqb, eqb-true, eqb-false}
 use lib.Dec.{eqb}
 use borrow.Author.Rules.{part_to_end}
 use Rattle.hypermap.proofs.Basics.Bools.{by_cases}
 use Rattle.table.specs.Refusals.{or_else}
-use Rattle.std.proofs.Common.{Result}
-use Rattle.std.specs.Result.{IsErrAnd}
+use Rattle.std.specs.Prelude.{Result, Ok, Err, MatchResult, IfOk, IsErrAnd, is_ok}
+use Rattle.std.proofs.lemmas.Bool.{false≢true}
 use Rattle.std.proofs.lemmas.Result.{err_from_is_err_and}
 use Rattle.table.specs.declared.refusals.Refusal.{Refusal}
-use Rattle.table.specs.Replies.{number}
+use Rattle.table.specs.Replies.{number, reply}
 use Rattle.table.proofs.Replying.{number_positive}
 use Rattle.tape.specs.Replies.{run_reply}
 use Rattle.tape.specs.declared.Stopped.{Stopped}
@@ -76,24 +77,10 @@ module _ {S : Type 0} (r : Rule S TapeCommand) (s : S) (bs : List ℕ) (e : firs
     pub first_rest : 0 < length bs → length (take (length bs - n) (drop n bs)) < length bs
     first_rest some = rw (part_to_end, z) (rest_shorter bs some)
 
--- WHAT THE CHECK TRIES BY ITSELF on a first command: the definitions, opened
-pub first_refusal_is :
-    {S : Type 0} (r : Rule S TapeCommand) (s : S) (bs : List ℕ) →
-    first_refusal r s bs ≡ cond (eqb (read_refusal bs) 0) (r.refusal s (command_of bs)) (read_refusal bs)
-unfolding first_refusal or_else
-first_refusal_is r s bs = refl
-
-pub first_leaves_is :
-    {S : Type 0} (r : Rule S TapeCommand) (s : S) (bs : List ℕ) →
-    first_leaves r s bs ≡ cond (eqb (first_refusal r s bs) 0) (r.on s (command_of bs)) s
-unfolding first_leaves leaves
-first_leaves_is r s bs = refl
-
-pub leaves_is : {S : Type 0} (n : ℕ) (v w : S) → leaves n v w ≡ cond (eqb n 0) v w
-unfolding leaves
-leaves_is n v w = refl
-
-pub ruleset firsts = (first_refusal_is, first_leaves_is, leaves_is, number_positive)
+-- the definitions that the check opens by itself on a first command, by one name
+unfoldable pub definitions : ⊤
+unfolding first_refusal first_leaves leaves or_else
+definitions = tt
 
 -- a report that is accepted and changes nothing leaves the state
 pub report_leaves :
@@ -159,3 +146,23 @@ pub stopped_reply :
     (r : Result ℕ Stopped) (d : Refusal) → StoppedAtOnce r d →
     run_reply r ≡ record { number = number d; accepted = 0 }
 stopped_reply r d q = let p = err_from_is_err_and r q in rw (p.1, p.2.0, p.2.1)
+
+-- AN ANSWER whose refusal is made what stops the run, after k commands
+pub kept_on : {A : Type 0} (r : Result A Refusal) → true ≡ is_ok r → reply r ≡ 0
+kept_on (Ok x) e = refl
+kept_on (Err d) e = absurd (false≢true (sym e))
+
+module _ {A : Type 0} (Goes : A → Type 0) (Stops : Refusal → Type 0) where
+  pub kept_value :
+      (r : Result A Refusal) (a : A) (P : A → Type 0) → MatchResult r Goes Stops → ((x : A) → Goes x → a ≡ x) →
+      IfOk r P → true ≡ is_ok r → P a
+  kept_value (Ok x) a P m f i e = rw (f x m) i
+  kept_value (Err d) a P m f i e = absurd (false≢true (sym e))
+
+  pub stopped_after :
+      (r : Result A Refusal) (k : ℕ) (s : Stopped) (x : Result ℕ Stopped) → MatchResult r Goes Stops →
+      ((d : Refusal) → Stops d → s ≡ record { refusal = d; accepted = k }) → IsErrAnd x (λ t. t ≡ s) →
+      false ≡ is_ok r → (reply r ≡ 0 → ⊥) × (run_reply x ≡ record { number = reply r; accepted = k })
+  stopped_after (Ok u) k s x m f i e = absurd (false≢true e)
+  stopped_after (Err d) k s (Ok n) m f i e = absurd i
+  stopped_after (Err d) k s (Err t) m f i e = (number_positive d, rw (i, f d m) refl)

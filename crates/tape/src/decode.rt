@@ -16,7 +16,7 @@ use table::refusals::Refusal;
 fn byte_at(tape: &[u8], i: usize) -> u8
     ensures { result ≡ get_or tape.now i 0 }
 {
-    if i < tape.len() { tape[i] } else { 0 }
+    tape.get(i).copied().unwrap_or(0)
 }
 
 // The number in two bytes, low byte first.

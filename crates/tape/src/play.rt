@@ -13,7 +13,7 @@ use table::refusals::Refusal;
 
 // The first command of a tape, read and carried out. Answers it, and how many bytes it has.
 #[inline(always)]
-#[tactic(auto, using(crate::proofs::Playing::firsts))]
+#[tactic(auto, using(table::proofs::Replying::number_positive), unfolding(crate::proofs::Playing::definitions))]
 pub fn play_first<M: Machine>(machine: &mut M, tape: &[u8]) -> Result<(Instruction, usize), Refusal>
     ensures value { reply result ≡ first_refusal M.rule (M.state machine.old) tape.now }
     ensures first { IfOk result (λ a. (meaning tape.now a.0 ≡ command_of tape.now) × (a.1 ≡ size_of tape.now)) }
@@ -39,10 +39,8 @@ pub fn play<M: Machine>(machine: &mut M, tape: &[u8]) -> Result<u32, Stopped>
     let mut rest = tape;
     let mut accepted = 0;
     while !rest.is_empty() {
-        match play_first(machine, rest) {
-            Ok((_, size)) => rest = &rest[size..],
-            Err(refusal) => return Err(Stopped { refusal, accepted }),
-        }
+        let (_, size) = play_first(machine, rest).map_err(|refusal| Stopped { refusal, accepted })?;
+        rest = &rest[size..];
         accepted += 1;
     }
     Ok(accepted)

@@ -22,6 +22,8 @@ fn cut_tape_ring<M: Machine>(machine: &mut M, tape: &[u8], n: u8) -> Result<(), 
         rule_leaves M.rule (M.state machine.old) (cuts_ring (numbers_from (2 * n) 2 tape.now)) }
     ensures names { M.names machine.new ≡ M.names machine.old }
 {
+    // An `ArrayVec` was tried: where `read_ring` answers it, a journaled run takes 1.3 to 1.4 of the time. Where it is
+    // filled out of line, the run takes 0.99, but there are 28 lines more: a loop like `read_numbers`, proved again.
     let mut words = [0u16; MAX_TAPE_RING]; // fixed memory: no heap
     machine.cut_ring(decode::read_ring(tape, n, &mut words))
 }

@@ -1,24 +1,16 @@
-use Rattle.std.proofs.Common.{◌≡◌, ℕ, ◌≤◌, ltb, refl, sym, ◌∙◌, le-leb, arith}
+use Rattle.std.proofs.Common.{◌+◌, ltb, length, ap, ◌∙◌, rules, tests, arith}
+use Rattle.std.proofs.lemmas.Iterator.{YieldsList-from_range}
+use Rattle.std.proofs.lemmas.Iterator.Consumers.{YieldsList-at, YieldsList-from_filter, count_from_yields_List}
 use Rattle.table.specs.Limits.{edge_next}
-use Rattle.table.specs.Layout.{Table, capacity, word_at, is_present}
-use Rattle.parts.proofs.Counting.{counting_yes, counting_no, counting_all}
+use Rattle.table.specs.Layout.{capacity, word_at}
+use Rattle.parts.proofs.Counting.{darts_kept}
 use Rattle.parts.proofs.count.count_darts.Goals as goal
-use Rattle.parts.proofs.count.count_darts.Goals.{then-is_dart, else-is_dart}
-
--- a number of the table is present if it is a dart
-tested : (w : Table) (x y : ℕ) → y ≡ x → 1 ≤ x → x ≤ capacity w → is_present w x ≡ ltb 0 (word_at w y edge_next)
-unfolding is_present
-tested w x y e l h = rw (e, le-leb 1 x l, le-leb x (capacity w) h) refl
-
-pub loop-x-preserved : goal.loop-x-preserved
-loop-x-preserved c =
-    let i = c.loop-x.invariant in
-    let high : c.loop-x.x ≤ capacity c.args.table.now = omega arith in
-    let p = tested c.args.table.now _ _ c.from.ensures i.ones.low high in
-    elim c.if-is_dart.branch [
-      | then-is_dart w ↦ rw w.count-is (counting_yes _ _ _ _ i high (p ∙ sym w.if-is_dart.ensures))
-      | else-is_dart w ↦ rw w.count-is (counting_no _ _ _ _ i high (p ∙ sym w.if-is_dart.ensures))
-    ]
 
 pub returns : goal.returns
-returns c = counting_all _ _ _ _ c.loop-x.invariant (omega arith)
+returns c =
+    let w = c.args.table.now in
+    count_from_yields_List _ _ c.count.ensures.ran
+    (YieldsList-from_filter _ (λ x. ltb 0 (word_at w x edge_next))
+    (YieldsList-at c.filter.ensures.source (YieldsList-from_range 1 (capacity w + 1) (capacity w) (cc) (omega arith)))
+    c.filter.ensures.closure (λ x b q k. search (rules, tests))) ∙
+    ap length (darts_kept w 1 (capacity w) (omega arith) (omega arith))

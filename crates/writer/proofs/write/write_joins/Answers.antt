@@ -1,12 +1,11 @@
 use mathlib.Core.Path.{◌∙◌}
 use native.Mathlib.Omega.{arith}
-use borrow.Author.Tests.{eq-eqb, ne_eqb}
+use borrow.Author.Tests.{eq-eqb}
 use Rattle.hypermap.proofs.Basics.Bools.{and_left}
 use Rattle.table.specs.Inner.{dimension_of}
-use Rattle.writer.proofs.Passing.{passing_room, passing_yes, passing_no, passing_all, all_joins}
+use Rattle.writer.proofs.Passing.{passing_room, passing_all, all_joins}
 use Rattle.writer.proofs.Passing.{first_test}
 use Rattle.writer.proofs.write.write_joins.Goals as goal
-use Rattle.writer.proofs.write.write_joins.Goals.{then-mark_of-x, else-mark_of-x}
 
 pub write_orbit_joins-at-requires : goal.write_orbit_joins-at-requires
 write_orbit_joins-at-requires c =
@@ -16,19 +15,6 @@ write_orbit_joins-at-requires c =
       dart = record { hypermap = c.requires.table.hypermap; here = and_left _ _ t };
       room = passing_room _ _ _ _ _ _ _ _ c.loop-x.invariant (omega arith) t;
     }
-
-pub loop-x-preserved : goal.loop-x-preserved
-loop-x-preserved c =
-    let t = first_test _ (dimension_of c.args.d) _ _ _ c.loop-x.invariant.low (omega arith) c.requires.marked
-    c.mark_of.ensures in
-    elim c.if-mark_of-x.branch [
-      | then-mark_of-x w ↦
-          rw (w.at-is, w.out-is) (passing_yes _ _ _ _ _ _ _ _ c.loop-x.invariant _ _ (omega arith)
-          (t ∙ eq-eqb _ _ w.if-mark_of-x.true) w.write_orbit_joins-at.ensures)
-      | else-mark_of-x w ↦
-          rw (w.at-is, w.out-is) (passing_no _ _ _ _ _ _ _ _ c.loop-x.invariant (omega arith)
-          (t ∙ ne_eqb _ _ w.if-mark_of-x.false))
-    ]
 
 pub returns : goal.returns
 returns c =
