@@ -33,7 +33,7 @@
  * count words or bytes, as the name says. An empty list or journal is any pointer, NULL too, with length 0.
  *
  * The stack that a call takes is measured, not proved: LOTSKADI_CALL_STACK bytes suffice. On x86-64, with a full table
- * and the longest ring and tape, lotskadi_screen takes the most, 49,431 bytes, since its table lies there too;
+ * and the longest ring and tape, lotskadi_screen takes the most, 49,447 bytes, since its table lies there too;
  * lotskadi_report takes 16,599, and every other call takes less. */
 #ifndef LOTSKADI_H
 #define LOTSKADI_H

@@ -43,14 +43,12 @@ pub fn write_change(journal: &mut [u16], n: u32, change: Change)
     }
 }
 
-// The opcode that a word holds, if it holds one.
+// The opcode that a word holds, if it holds one. `TryFrom<u16>` would stand in `tape`, where no opcode is a word.
 #[tactic(auto, using(tape::proofs::Decoding::is_unknown))]
 fn opcode_in(word: u16) -> Option<Opcode>
     ensures { MatchOption result (is_command word ≡ false) (λ opcode. word ≡ byte_for opcode) }
 {
-    let Ok(byte) = u8::try_from(word) else {
-        return None;
-    };
+    let byte = u8::try_from(word).ok()?;
     Opcode::try_from(byte).ok()
 }
 
@@ -59,6 +57,7 @@ fn opcode_in(word: u16) -> Option<Opcode>
 fn change_of(byte: u16, a: u32, b: u32) -> Option<Change>
     ensures { Records (entry byte a b) result }
 {
+    // A match: each change has a variant of its own.
     match opcode_in(byte)? {
         Opcode::Put => (b == 0).then_some(Change::Put(a)),
         Opcode::TakeOut => (b == 0).then_some(Change::TakeOut(a)),

@@ -122,6 +122,7 @@ pub fn flood_all(table: &[u16], marks: &mut [u16]) -> Flooded
 {
     let mut queue = [0u16; MAX_CAPACITY]; // fixed memory: no heap
     let n = words::capacity_of(table);
+    // Not `Flooded::default()`: with it a report of a grid takes 1.06 of the time.
     let mut found = Flooded {
         components: 0,
         lifts: 0,

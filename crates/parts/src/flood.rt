@@ -65,8 +65,9 @@ pub fn flood(table: &[u16], x: u16, value: u16, marks: &mut [u16], queue: &mut [
     count
 }
 
-// The number of components, with the marks of all darts. The pass is that of `mark_orbits`; one for both would take a
-// closure, and a contract of what that marks, which is longer than the pass.
+// The number of components, with the marks of all darts. The pass is that of `mark_orbits`. One for both was written
+// out: a trait of what marks a part, with the law that the parts are a partition, and an impl for orbits and one for
+// components are 68 lines in place of 31.
 pub fn mark_components(table: &[u16], marks: &mut [u16]) -> u32
     requires { Marking table.now marks.old }
     ensures value { result ≡ components (hypermap_of table.now) }

@@ -72,6 +72,7 @@ fn write_lines<W: Write, const N: usize>(lines: &mut Buffered<W, N>, tape: &[u8]
 
 fn main(rt: HostRuntime) -> io::Result<()> {
     let mut tape = ArrayVec::<u8, READ_BYTES>::new();
+    // `as`: the library has no `From` from `usize` to `u64`.
     io::copy(&mut rt.stdin().take(READ_BYTES as u64), &mut tape)?;
     let mut lines = Buffered::<_, BUFFER_BYTES>::new(io::writer(&rt));
     write_lines(&mut lines, &tape)

@@ -22,7 +22,8 @@ fn counts(machine: &BareTable) -> Counts
     count::counts(machine.table)
 }
 
-// The numbers in document 01's order.
+// The numbers in document 01's order. `Counts` has no `Display`: the line is of this program alone, and `Counts` is of
+// another crate, so that an impl here would need a type around it.
 fn write_report<W: Write>(lines: &mut W, counts: Counts) -> io::Result<()>
     ensures { OnOk result (Appends (W.contents lines.old) (W.contents lines.new) (report_line counts)) }
 {
@@ -64,5 +65,5 @@ pub fn write_refused<W: Write>(lines: &mut W, refusal: Refusal) -> io::Result<()
     ensures { OnOk result (Appends (W.contents lines.old) (W.contents lines.new)
         (refused_line (number refusal))) }
 {
-    writeln!(lines, "refused {}", u8::from(refusal))
+    writeln!(lines, "refused {refusal}")
 }

@@ -1,5 +1,6 @@
 // The orbits of the first darts of a list, each marked from the earliest first dart in it. No dart is marked twice, so
-// the time is linear in the table and the list, even where many double-links lie in one orbit.
+// the time is linear in the table and the list, even where many double-links lie in one orbit. Table, double-links and
+// marks are passed apart, for the reason that `parts::marks` gives.
 ghost use Rattle.std.specs.Prelude.{◌≡◌, true};
 ghost use Rattle.table.specs.Inner.{kind_of};
 ghost use Rattle.rings.specs.Inner.{links_in, LinksMarking, firsts_apart, FirstsTell, FirstsMarked};

@@ -19,7 +19,7 @@ pub fn is_list(ring: &[u16]) -> bool
 
 // Refusal 3 for a word off the table, and then 4 for one that is no dart. Of one dart and of two, `judge_dart` and
 // `judge_darts` of table judge the same without a loop, since they stand in the loop over a tape's commands.
-#[tactic(auto, using(crate::proofs::RingStages::word_stages))]
+#[tactic(auto, using(crate::proofs::RingStages::word_stages), unfolding(crate::proofs::RingStages::definitions))]
 pub fn judge_words(table: &[u16], ring: &[u16]) -> Result<(), Refusal>
     ensures { reply result ≡ presence_refusal table.now ring.now }
 {

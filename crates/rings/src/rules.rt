@@ -15,7 +15,7 @@ use table::refusals::Refusal;
 use table::{Orbit, words};
 
 // The conditions on double-links of darts. The edges are marked once for two of them, and judged in their places.
-#[tactic(auto, using(crate::proofs::RingStages::condition_stages))]
+#[tactic(auto, using(crate::proofs::RingStages::condition_stages), unfolding(crate::proofs::RingStages::definitions))]
 fn judge_conditions(table: &[u16], links: &[[u16; 2]], marks: &mut [u16]) -> Result<(), Refusal>
     requires { LinksMarking table.now (links_in links.now) marks.old }
     ensures { reply result ≡ condition_refusal (hypermap_of table.now) (links_in links.now) }
@@ -41,7 +41,7 @@ fn judge_conditions(table: &[u16], links: &[[u16; 2]], marks: &mut [u16]) -> Res
 
 // Never inlined: the marks make a large frame.
 #[inline(never)]
-#[tactic(auto, using(crate::proofs::RingStages::ring_stages))]
+#[tactic(auto, using(crate::proofs::RingStages::ring_stages), unfolding(crate::proofs::RingStages::definitions))]
 pub fn judge_ring(table: &[u16], ring: &[u16]) -> Result<(), Refusal>
     requires { WithinCapacity table.now }
     ensures { reply result ≡ ring_refusal table.now ring.now }

@@ -15,7 +15,7 @@ const WORDS: usize = 5 * WORDS_PER_DART;
 fn write_answer(rt: &impl Print, answer: Result<(), Refusal>) -> io::Result<()> {
     match answer {
         Ok(()) => println!(rt; ": ok"),
-        Err(refusal) => println!(rt; ": refused {}", u8::from(refusal)),
+        Err(refusal) => println!(rt; ": refused {refusal}"),
     }
 }
 
@@ -50,6 +50,7 @@ fn tell_look(rt: &impl Print, table: &[u16], x: u32) -> io::Result<()> {
     println!(rt)
 }
 
+// The pairs are printed here and nowhere else, so `DoubleLink` has no `Display`.
 fn tell_cut(rt: &impl Print, table: &mut [u16], ring: [DoubleLink; 2]) -> io::Result<()> {
     print!(rt; "ring")?;
     for link in &ring {

@@ -63,6 +63,7 @@ impl Change {
     pub fn opposite(self) -> Change
         ensures { command_for result ≡ opposite (command_for self) }
     {
+        // A match: each variant has an opposite of its own.
         match self {
             Change::Put(x) => Change::TakeOut(x),
             Change::TakeOut(x) => Change::Put(x),

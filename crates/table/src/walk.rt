@@ -1,7 +1,8 @@
 // Walks from dart to dart of a table that holds a hypermap. A walk needs no counter to end: by the law of orbits it
 // comes home. One that counts its steps counts in 16 bits: no orbit passes the capacity, nor has as many darts as a
 // word has values. Table, orbit and dart are what a walk is asked for, and so are arguments: a struct of them would be
-// made for one call.
+// made for one call. Each walk is a loop of its own: an iterator over the darts of an orbit ends where it began, so it
+// would need a flag for the start beside the dart, and test it at each step.
 #![tactic(auto, using(crate::proofs::Walking::walks))]
 
 ghost use Rattle.std.specs.Prelude.{◌≡◌, cond, ◌++◌, length, drop};
@@ -28,6 +29,8 @@ pub fn step<const WAY: bool>(table: &[u16], orbit: Orbit, x: u16) -> u16
     ensures { result ≡ cond WAY (step_back (hypermap_of table.now) (kind_of orbit) x)
         (step_of (hypermap_of table.now) (kind_of orbit) x) }
 {
+    // A match: which step it is comes from outside. Handed in as a closure it would be chosen by each caller of a walk
+    // instead, and each walk would have to say in its contract which of the three steps the closure is.
     match (orbit, WAY) {
         (Orbit::Edge, _) => neighbour::<WAY>(table, Dimension::Edge, x),
         (Orbit::Vertex, _) => neighbour::<WAY>(table, Dimension::Vertex, x),

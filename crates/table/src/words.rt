@@ -58,6 +58,7 @@ pub fn neighbour_word<const WAY: bool>(d: Dimension) -> usize
     ensures value { result ≡ cond WAY (back_word (dimension_of d)) (next_word (dimension_of d)) }
     ensures small { result < words_per_dart }
 {
+    // A match: a place for each dimension and way.
     match (d, WAY) {
         (Dimension::Edge, NEXT) => EDGE_NEXT,
         (Dimension::Edge, BACK) => EDGE_BACK,

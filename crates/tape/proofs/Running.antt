@@ -47,11 +47,7 @@ pub ring_within : (w : Table) (ws : List ℕ) → WithinCapacity w → WithinCap
 unfolding ring_leaves
 ring_within w ws = left_within w (cuts_ring ws)
 
-pub ring_leaves_is : (w : Table) (ws : List ℕ) → ring_leaves w ws ≡ step_leaves w (cuts_ring ws)
-unfolding ring_leaves
-ring_leaves_is w ws = refl
-
-pub ruleset within = (change_within, ring_within, ring_leaves_is)
+pub ruleset within = (change_within, ring_within)
 
 -- a run starts on an empty table
 pub zeros_within : (n : ℕ) → n ≤ max_capacity → WithinCapacity (replicate (words_per_dart * n) 0)

@@ -70,7 +70,7 @@ impl Machine for BareTable<'_> {
     }
 
     #[inline(always)]
-    #[tactic(auto, using(crate::proofs::Running::within))]
+    #[tactic(auto, using(crate::proofs::Running::within), unfolding(rings::specs::Rings::ring_leaves))]
     fn cut_ring(&mut self, ring: &[u16]) -> Result<(), Refusal> {
         cut::cut_ring(self.table, ring)
     }

@@ -11,8 +11,7 @@ slice_bounds-rest-count g c =
     first_fits step_rule _ _ (sym c.in-Ok.ensures.value) _ c.in-Ok.ensures.first.1
 
 pub slice_bounds-rest-start : goal.slice_bounds-rest-start
-slice_bounds-rest-start g c =
-    first_fits step_rule _ _ (sym c.in-Ok.ensures.value) _ c.in-Ok.ensures.first.1
+slice_bounds-rest-start g c = slice_bounds-rest-count g c
 
 pub loop-rest-smaller : goal.loop-rest-smaller
 loop-rest-smaller g c =

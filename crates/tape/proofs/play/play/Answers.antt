@@ -27,11 +27,7 @@ slice_bounds-rest-count g c =
     first_fits g.M.Machine.rule _ _ (sym c.play_first.ensures.value ∙ kept_on _ m.variant) _ w.1
 
 pub slice_bounds-rest-start : goal.slice_bounds-rest-start
-slice_bounds-rest-start g c =
-    let m = c.in_ok-size.ensures in
-    let w = kept_value _ _ c.play_first.result (c.in_ok-size.field-0-0, c.in_ok-size.size) _ m.cases
-    (λ x o. search rules) c.play_first.ensures.first m.variant in
-    first_fits g.M.Machine.rule _ _ (sym c.play_first.ensures.value ∙ kept_on _ m.variant) _ w.1
+slice_bounds-rest-start g c = slice_bounds-rest-count g c
 
 pub loop-rest-smaller : goal.loop-rest-smaller
 loop-rest-smaller g c =
