@@ -1,4 +1,4 @@
--- One change and one ring, made and written into the journal, or refused. Assumes nothing.
+-- One change and one ring, made and written into the journal, or refused.
 use Rattle.std.specs.Bool.{⊤}
 use mathlib.Core.Path.{◌≡◌, refl, ap, sym, ◌∙◌}
 use mathlib.Core.Bool.{true}
@@ -8,7 +8,7 @@ use native.Mathlib.Omega.{arith}
 use lib.Dec.{eqb}
 use lib.ListN.{length}
 use borrow.Author.Tests.{le-leb, lt-leb, eqb-true}
-use Rattle.hypermap.proofs.Basics.Bools.{by_cases}
+use Rattle.lists.proofs.Bools.{by_cases}
 use Rattle.table.specs.Limits.{words_per_entry, max_word, max_capacity, max_entries}
 use Rattle.table.specs.Refusals.{journal_full, or_else}
 use Rattle.table.specs.Layout.{Table, capacity}
@@ -23,8 +23,7 @@ use Rattle.tape.specs.Steps.{TapeCommand, changes, cuts_ring}
 use Rattle.journal.specs.Entries.{Journal, entry_of, with_entry, with_entries}
 use Rattle.journal.specs.Heads.{has_room, room_refusal}
 use Rattle.journal.specs.Journaling.{Recorded, journaled_refusal, journaled_on}
-use Rattle.journal.specs.Inner.{recorded, journaled_leaves, IsRoom, WritableChange, WithinJournal}
-use Rattle.journal.specs.Inner.{RoomForCuts}
+use Rattle.journal.specs.Inner.{recorded, journaled_leaves, IsRoom, WritableChange, WithinJournal, RoomForCuts}
 use Rattle.journal.proofs.CutEntries.{cuts_length}
 use Rattle.journal.proofs.Room.{room_known, room_left}
 use Rattle.journal.proofs.Running.{made_within}

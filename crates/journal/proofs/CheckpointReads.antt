@@ -1,29 +1,23 @@
--- A checkpoint as code reads it. Assumes nothing.
-use Rattle.table.specs.Commands.{leaves}
-use Rattle.std.specs.Bool.{⊤}
+-- A checkpoint as code reads it.
+use Rattle.std.specs.Bool.{⊤, then_some}
 use mathlib.Core.Bool.{Bool, true, false, not}
 use lib.Dec.{eqb}
-use mathlib.Core.Path.{◌≡◌, refl, ◌∙◌}
-use mathlib.Core.List.{List, [], ◌∷◌}
+use mathlib.Core.Path.{◌≡◌, ◌∙◌}
 use Rattle.std.specs.Prelude.{Option, Some, None, MatchOption}
 use Rattle.std.specs.Option.{option_copied}
-use Rattle.std.specs.Bool.{then_some}
 use Rattle.std.proofs.Common.{Bor}
 use Rattle.std.specs.Slice.{IsItemAt}
-use Prim.Native.Nat.{ℕ, zero, suc, ◌≤◌, ◌<◌}
+use Prim.Native.Nat.{ℕ, ◌≤◌, ◌<◌}
 use native.Mathlib.Omega.{arith}
-use lib.ListN.{length, get_or}
+use lib.ListN.{length}
 use borrow.Author.Tests.{lt-ltb, le-ltb}
+use Rattle.lists.proofs.Indices.{any_default}
+use Rattle.table.specs.Commands.{leaves}
 use Rattle.table.specs.Limits.{unset, checkpoint_count}
 use Rattle.table.specs.Refusals.{unless}
 use Rattle.journal.specs.Heads.{checkpoint_of, back_refusal, set_refusal}
 use Rattle.journal.specs.Inner.{CheckpointRead}
 use Rattle.journal.specs.declared.Head.{Head}
-
-any_default : (xs : List ℕ) (i d e : ℕ) → i < length xs → get_or xs i d ≡ get_or xs i e
-any_default [] i d e h = absurd (omega arith)
-any_default (x ∷ xs) zero d e h = refl
-any_default (x ∷ xs) (suc i) d e h = any_default xs i d e (omega arith)
 
 -- A CHECKPOINT THAT IS READ: looked up, and kept where it is set
 module _ (h : Head) (c : ℕ) where

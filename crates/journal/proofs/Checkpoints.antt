@@ -1,5 +1,4 @@
--- Checkpoints that fit the length of a journal: set, kept or dropped as the length is cut back, and read. Assumes
--- nothing.
+-- Checkpoints that fit the length of a journal: set, kept or dropped as the length is cut back, and read.
 use mathlib.Core.Path.{◌≡◌, refl, sym, ◌∙◌}
 use mathlib.Core.Bool.{true, ◌&&◌, not}
 use mathlib.Core.List.{List, [], ◌∷◌, map}
@@ -10,14 +9,13 @@ use lib.Dec.{ltb, eqb}
 use lib.ListN.{length, get_or, set}
 use lib.Seq.{get_or-set_same, get_or-set_other}
 use borrow.Author.Tests.{eqb-false, ne_eqb, leb-true, le-leb, ltb-false, le-ltb, not-true}
-use Rattle.hypermap.specs.Lists.{all}
-use Rattle.hypermap.proofs.Basics.Bools.{by_cases, and_left, and_right, and_true, or_left, or_right}
-use Rattle.hypermap.proofs.Basics.Lists.{all_mem, mem_all}
+use Rattle.lists.specs.Lists.{all}
+use Rattle.lists.proofs.Bools.{by_cases, and_left, and_right, and_true, or_left, or_right}
+use Rattle.lists.proofs.Lists.{all_mem, mem_all}
 use Rattle.table.specs.Limits.{unset, checkpoint_count}
 use Rattle.table.specs.Refusals.{no_mark}
 use Rattle.table.proofs.Stages.{fitting}
-use Rattle.journal.specs.Heads.{checkpoint_fits, checkpoint_of, with_checkpoint, kept_to, cut_back}
-use Rattle.journal.specs.Heads.{back_refusal}
+use Rattle.journal.specs.Heads.{checkpoint_fits, checkpoint_of, with_checkpoint, kept_to, cut_back, back_refusal}
 use Rattle.journal.specs.declared.Head.{Head}
 
 -- ONE CHECKPOINT fits a length where it is not past it, unless it is not set

@@ -1,5 +1,5 @@
 -- What the entries of a journal lead back to, undone from the latest: a change adds its own undo, and going back takes
--- undos away, wherever it is stopped. Assumes nothing.
+-- undos away, wherever it is stopped.
 use mathlib.Core.Path.{◌≡◌, refl, sym, ◌∙◌}
 use mathlib.Core.Bool.{true}
 use mathlib.Core.List.{List, [], ◌∷◌}
@@ -8,7 +8,7 @@ use native.Mathlib.Omega.{arith}
 use lib.Dec.{eqb}
 use lib.ListN.{length}
 use borrow.Author.Tests.{eq-eqb}
-use Rattle.hypermap.proofs.Basics.Bools.{by_cases}
+use Rattle.lists.proofs.Bools.{by_cases}
 use Rattle.table.specs.Limits.{words_per_dart, words_per_entry}
 use Rattle.table.specs.Refusals.{journal_full, unless}
 use Rattle.table.specs.Layout.{Table, holds_hypermap}

@@ -1,4 +1,4 @@
--- The entries of a ring's cuts, written one after the other. Assumes nothing.
+-- The entries of a ring's cuts, written one after the other.
 use mathlib.Core.Path.{◌≡◌, refl, ap, sym, ◌∙◌}
 use mathlib.Core.List.{List, [], ◌∷◌}
 use Prim.Native.Nat.{ℕ, suc, ◌+◌, ◌/◌}

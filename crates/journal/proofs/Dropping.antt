@@ -1,4 +1,4 @@
--- A loop that changes the numbers of a list in place: the first k by f, and the others as they were. Assumes nothing.
+-- A loop that changes the numbers of a list in place: the first k by f, and the others as they were.
 use mathlib.Core.Path.{◌≡◌, refl, ap, ◌∙◌}
 use mathlib.Core.List.{List, [], ◌∷◌, map}
 use Prim.Native.Nat.{ℕ, zero, suc, ◌+◌, ◌<◌}

@@ -1,5 +1,5 @@
 -- Entries written and read again: the entry of a command is read back as that command, and a write changes the one
--- entry that it names. Assumes nothing.
+-- entry that it names.
 use mathlib.Core.Path.{◌≡◌, refl, ◌∙◌}
 use mathlib.Core.Bool.{true}
 use mathlib.Core.List.{List, [], ◌∷◌}

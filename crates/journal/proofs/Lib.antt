@@ -1,3 +1,4 @@
+-- Words of entries, checkpoints, recorded changes and runs, and going back entry by entry.
 pub mod Room
 pub mod EntryWords
 pub mod Checkpoints

@@ -1,4 +1,4 @@
--- The room of a journal: by its words and by the limit, and as one number. Assumes nothing.
+-- The room of a journal: by its words and by the limit, and as one number.
 use mathlib.Core.Path.{◌≡◌, sym, ◌∙◌}
 use mathlib.Core.Bool.{true}
 use Prim.Native.Nat.{ℕ, ◌*◌, ◌/◌, ◌≤◌, min}
@@ -7,7 +7,7 @@ use native.Mathlib.Omega.{arith}
 use lib.Dec.{leb}
 use lib.ListN.{length}
 use borrow.Author.Tests.{leb-true, le-leb}
-use Rattle.hypermap.proofs.Basics.Bools.{bool_ext, and_left, and_right, and_true}
+use Rattle.lists.proofs.Bools.{bool_ext, and_left, and_right, and_true}
 use Rattle.table.specs.Limits.{words_per_entry, max_entries}
 use Rattle.journal.specs.Entries.{Journal}
 use Rattle.journal.specs.Heads.{has_room}

@@ -1,5 +1,5 @@
 -- What an accepted command keeps of a table with its journal: it is within the capacity, and the journal has the used
--- entries. Assumes nothing.
+-- entries.
 use mathlib.Core.Path.{◌≡◌}
 use Prim.Native.Nat.{ℕ, ◌+◌}
 use native.Mathlib.Omega.{arith}

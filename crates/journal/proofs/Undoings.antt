@@ -1,4 +1,4 @@
--- One entry undone, by its byte, and the loop that goes back entry by entry. Assumes nothing.
+-- One entry undone, by its byte, and the loop that goes back entry by entry.
 use Rattle.std.specs.Bool.{⊤}
 use mathlib.Core.Path.{◌≡◌, refl, ap, sym, ◌∙◌}
 use mathlib.Core.Bool.{false, ◌&&◌}
@@ -9,7 +9,7 @@ use lib.Dec.{leb, eqb}
 use lib.ListN.{length}
 use Rattle.std.proofs.lemmas.Bool.{false≢true}
 use borrow.Author.Tests.{le-leb, eqb-true, eq-eqb, ne_eqb, leb-true, lt-ltb}
-use Rattle.hypermap.proofs.Basics.Bools.{refuted, and_left, and_right}
+use Rattle.lists.proofs.Bools.{refuted, and_left, and_right}
 use Rattle.table.specs.Limits.{words_per_entry}
 use Rattle.table.specs.Refusals.{undo_unfit, unless}
 use Rattle.table.specs.Layout.{Table}

@@ -1,5 +1,5 @@
 -- The entries of a journal: three words each, a command byte and its operands, 0 for an operand that the command lacks.
--- Document 02, Job 5, where an entry is called a record. Assumes nothing: these are definitions.
+-- Document 02, Job 5, where an entry is called a record.
 use Rattle.std.specs.Prelude.{Bool, ◌&&◌, ◌||◌, cond, List, [], ◌∷◌, ℕ, suc, ◌+◌, ◌*◌, leb, eqb, get_or, set}
 use Rattle.hypermap.specs.Hypermap.{edge, vertex}
 use Rattle.table.specs.Limits.{words_per_entry}

@@ -1,7 +1,6 @@
 -- The head of a journal: how many entries are used, and sixteen checkpoints, which document 02, Job 5, calls marks.
--- Assumes nothing: these are definitions.
 use Rattle.std.specs.Prelude.{Bool, ◌&&◌, ◌||◌, not, cond, map, ℕ, ◌+◌, ◌*◌, leb, ltb, eqb, length, get_or, set}
-use Rattle.hypermap.specs.Lists.{all}
+use Rattle.lists.specs.Lists.{all}
 use Rattle.table.specs.Limits.{words_per_entry, max_entries, unset, checkpoint_count}
 use Rattle.table.specs.Refusals.{undo_unfit, journal_full, no_mark, unless}
 use Rattle.journal.specs.Entries.{Journal}

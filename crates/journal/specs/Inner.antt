@@ -1,5 +1,4 @@
--- What the inner functions are lent and answer. They carry how many entries are used, not the head. Assumes nothing:
--- these are definitions.
+-- What the inner functions are lent and answer. They carry how many entries are used, not the head.
 use Rattle.std.specs.Prelude.{◌≡◌, true, false, List, ℕ, ◌+◌, ◌*◌, ◌/◌, ◌≤◌, leb, length, Option, MatchOption}
 use Rattle.table.specs.Limits.{words_per_entry, max_word, max_tape, max_entries}
 use Rattle.table.specs.Refusals.{no_mark}

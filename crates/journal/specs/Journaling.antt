@@ -1,5 +1,5 @@
 -- Commands whose changes are written into a journal. Document 02, Job 5: "A journal in lent words keeps accepted
--- changes, a ring as its cuts"; 18 comes after the command's own refusals. Assumes nothing: these are definitions.
+-- changes, a ring as its cuts"; 18 comes after the command's own refusals.
 use Rattle.std.specs.Prelude.{List, [], ◌∷◌, ℕ, ◌+◌, length}
 use Rattle.table.specs.Refusals.{or_else}
 use Rattle.table.specs.Layout.{Table}

@@ -1,3 +1,4 @@
+-- Entries, heads and checkpoints, the rule by which a journal records, and going back. Inner is of inner functions.
 pub mod Entries
 pub mod Heads
 pub mod Journaling

@@ -1,5 +1,4 @@
 -- A report on a table with its journal is accepted and adds no entry: what a machine that tapes play on has to show.
--- Assumes nothing.
 use Rattle.std.specs.Prelude.{◌≡◌, true, ℕ, ◌+◌}
 use Rattle.std.proofs.Common.{arith}
 use Rattle.table.specs.Refusals.{or_else, unless}

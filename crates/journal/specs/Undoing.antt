@@ -1,5 +1,5 @@
 -- Going back: a run over the entries, the latest first, by their opposite commands. Document 02, Job 5: "Where a record
--- is no change or its opposite command is refused, it stops". Assumes nothing: these are definitions.
+-- is no change or its opposite command is refused, it stops".
 use Rattle.std.specs.Prelude.{◌&&◌, List, [], ◌∷◌, ℕ, zero, suc, ◌+◌, eqb}
 use Rattle.table.specs.Refusals.{undo_unfit, unless}
 use Rattle.table.specs.Layout.{Table}

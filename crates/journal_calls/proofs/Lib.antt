@@ -1,1 +1,2 @@
+-- How such a call's answer follows from its stages.
 pub mod Replies

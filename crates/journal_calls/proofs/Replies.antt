@@ -1,5 +1,4 @@
--- What each call answers and leaves: refused by the table or the head, or by what the inner functions answer. Assumes
--- nothing.
+-- What each call answers and leaves: refused by the table or the head, or by what the inner functions answer.
 use mathlib.Core.Path.{◌≡◌, refl, ap, sym, ◌∙◌}
 use mathlib.Core.Bool.{true, not, ◌&&◌}
 use mathlib.Core.Logic.{◌≢◌}
@@ -8,7 +7,8 @@ use Prim.Native.Nat.{ℕ, ◌-◌, ◌≤◌}
 use native.Mathlib.Omega.{arith}
 use lib.Dec.{ltb, eqb}
 use borrow.Author.Tests.{eqb-false, not-true, eq-eqb, ne_eqb}
-use Rattle.hypermap.proofs.Basics.Bools.{by_cases, and_left, and_right}
+use Rattle.std.specs.Prelude.{Option, Some, None, Result, Err, ok_or}
+use Rattle.lists.proofs.Bools.{by_cases, and_left, and_right}
 use Rattle.table.specs.Limits.{max_tape, checkpoint_count}
 use Rattle.table.specs.Limits as limits
 use Rattle.table.specs.Refusals.{undo_unfit, no_mark, or_else}
@@ -21,7 +21,6 @@ use Rattle.tape.specs.declared.Run.{Run}
 use Rattle.tape.specs.declared.Stopped.{Stopped}
 use Rattle.tape.specs.Replies.{run_reply}
 use Rattle.tape.proofs.Playing.{StoppedAtOnce, stopped_reply}
-use Rattle.std.specs.Prelude.{Option, Some, None, Result, Err, ok_or}
 use Rattle.table.specs.Replies.{number, reply as number_in}
 use Rattle.table.specs.declared.refusals.Refusal.{Refusal}
 use Rattle.table.specs.declared.refusals.Refusal.TheVariants.{NoMark}
@@ -29,8 +28,8 @@ use Rattle.table.proofs.Replying.{number_positive, exits, goes_on}
 use Rattle.soundness.specs.Soundness.{table_refusal, tape_refusal}
 use Rattle.soundness.proofs.Passing.{table_within, tape_passed}
 use Rattle.journal.specs.Entries.{Journal}
-use Rattle.journal.specs.Heads.{has_room, head_fits, head_refusal, checkpoint_of}
-use Rattle.journal.specs.Heads.{with_checkpoint, cut_back, set_refusal, back_refusal}
+use Rattle.journal.specs.Heads.{has_room, head_fits, head_refusal, checkpoint_of, with_checkpoint, cut_back}
+use Rattle.journal.specs.Heads.{set_refusal, back_refusal}
 use Rattle.journal.specs.Journaling.{Recorded, journaled_refusal, journal_rule}
 use Rattle.journal.specs.Undoing.{undoing}
 use Rattle.journal.specs.Inner.{WithinJournal, Undoable, CheckpointRead, journaled_leaves}
@@ -38,10 +37,9 @@ use Rattle.journal.specs.declared.Head.{Head}
 use Rattle.journal.proofs.Room.{room_known}
 use Rattle.journal.proofs.Checkpoints.{set_checkpoint_low}
 use Rattle.journal.proofs.Undoings.{undone_at_most}
-use Rattle.journal_calls.specs.Calls.{State, recorded_in, state_refusal, perform_refusal}
-use Rattle.journal_calls.specs.Calls.{perform_reply, journal_play_refusal, play_reply, checkpoint_refusal}
-use Rattle.journal_calls.specs.Calls.{checkpoint_reply, back_call_refusal, back_reply, state_of}
-use Rattle.journal_calls.specs.Calls.{Reply, with_recorded}
+use Rattle.journal_calls.specs.Calls.{State, recorded_in, state_refusal, perform_refusal, perform_reply}
+use Rattle.journal_calls.specs.Calls.{journal_play_refusal, play_reply, checkpoint_refusal, checkpoint_reply}
+use Rattle.journal_calls.specs.Calls.{back_call_refusal, back_reply, state_of, Reply, with_recorded}
 
 -- A STATE that passes: the table is within the capacity, and the journal has the used entries
 module _ (s : State) (e : state_refusal s ≡ 0) where

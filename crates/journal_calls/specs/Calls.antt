@@ -1,5 +1,5 @@
 -- The public calls that bring a journal: what each answers, and the table, journal and head that it leaves. Document
--- 02, Job 5. Assumes nothing: these are definitions.
+-- 02, Job 5.
 use Rattle.std.specs.Prelude.{cond, List, ℕ, ◌-◌, eqb}
 use Rattle.table.specs.Refusals.{or_else}
 use Rattle.table.specs.Layout.{Table}

@@ -1,5 +1,4 @@
 -- How a call's answer and what it leaves come of its stages: the table is judged first, and then the rest answers.
--- Assumes nothing.
 use mathlib.Core.Path.{◌≡◌, ap, sym, ◌∙◌}
 use mathlib.Core.Bool.{Bool}
 use Prim.Native.Nat.{ℕ}
@@ -7,8 +6,7 @@ use borrow.Author.Tests.{eq-eqb}
 use Rattle.hypermap.specs.Hypermap.{Hypermap}
 use Rattle.parts.specs.Counts.{counts_of}
 use Rattle.parts.specs.declared.Counts.{Counts}
-use Rattle.kernel.specs.Calls.{totals_of, report_on}
-use Rattle.kernel.specs.Calls.{answer}
+use Rattle.kernel.specs.Calls.{totals_of, report_on, answer}
 
 -- an answer that is not refused
 pub given_answer :

@@ -1,4 +1,4 @@
--- What a question that was not refused has passed, and how many marks there are. Assumes nothing.
+-- What a question that was not refused has passed, and how many marks there are.
 use mathlib.Core.Path.{◌≡◌, refl, sym, ◌∙◌}
 use mathlib.Core.Bool.{false}
 use mathlib.Core.List.{[], ◌∷◌}

@@ -1,3 +1,4 @@
+-- How a public call's answer follows from its stages.
 pub mod Answering
 pub mod Judging
 pub mod Tapes

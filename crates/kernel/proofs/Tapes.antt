@@ -1,5 +1,4 @@
--- How the calls about tapes answer: the tape is judged, then the table, and then the run or the writer answers. Assumes
--- nothing.
+-- How the calls about tapes answer: the tape is judged, then the table, and then the run or the writer answers.
 use mathlib.Core.Path.{◌≡◌, refl, sym, ◌∙◌}
 use mathlib.Core.List.{List}
 use Prim.Native.Nat.{ℕ, ◌≤◌, ◌<◌}

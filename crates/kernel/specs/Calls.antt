@@ -1,5 +1,4 @@
--- What the public calls answer and leave. Document 01, "Questions" and "Refusals". Assumes nothing: these are
--- definitions.
+-- What the public calls answer and leave. Document 01, "Questions" and "Refusals".
 use Rattle.std.specs.Prelude.{Bool, false, cond, List, [], ◌∷◌, ◌++◌, ℕ, ◌+◌, ◌*◌, leb, eqb, pos, length, take, drop}
 use Rattle.hypermap.specs.Hypermap.{Hypermap, orbit_of, component_at}
 use Rattle.table.specs.Refusals.{short_room, or_else, unless}

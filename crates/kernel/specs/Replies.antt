@@ -1,4 +1,4 @@
--- What the code's answers stand for: the replies that C is given. Assumes nothing: these are definitions.
+-- What the code's answers stand for: the replies that C is given.
 use Rattle.std.specs.Prelude.{ℕ, false, Option, Result, Ok, Err, is_some, unwrap_or}
 use Rattle.table.specs.Replies.{number}
 use Rattle.table.specs.declared.refusals.Refusal.{Refusal}

@@ -1,5 +1,4 @@
--- What the calls about tapes answer, and what they leave in lent memory. Document 01, "Tape". Assumes nothing: these
--- are definitions.
+-- What the calls about tapes answer, and what they leave in lent memory. Document 01, "Tape".
 use Rattle.std.specs.Prelude.{cond, List, ◌++◌, ℕ, ◌*◌, leb, eqb, length, drop, replicate}
 use Rattle.table.specs.Refusals.{short_room, or_else, unless}
 use Rattle.table.specs.Limits.{words_per_dart, max_capacity, screen_room}

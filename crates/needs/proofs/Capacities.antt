@@ -1,5 +1,5 @@
 -- The least capacity of a tape: the greatest number that is named is at most n exactly where each of them is, and the
--- numbers that accepted commands name are those of the table. Assumes nothing.
+-- numbers that accepted commands name are those of the table.
 use mathlib.Core.Path.{◌≡◌}
 use mathlib.Core.Bool.{true}
 use mathlib.Core.List.{List, [], ◌∷◌}
@@ -7,9 +7,9 @@ use Prim.Native.Nat.{ℕ, ◌≤◌}
 use native.Mathlib.Omega.{arith}
 use lib.Dec.{leb, eqb}
 use borrow.Author.Tests.{eqb-true, eqb-false, leb-true, le-leb}
-use Rattle.hypermap.specs.Lists.{all}
-use Rattle.hypermap.proofs.Basics.Bools.{by_cases, and_right, and_true}
-use Rattle.hypermap.proofs.Basics.Lists.{Mem, mem_head, mem_tail, mem_nil, mem_cases, all_mem}
+use Rattle.lists.specs.Lists.{all}
+use Rattle.lists.proofs.Bools.{by_cases, and_right, and_true}
+use Rattle.lists.proofs.Lists.{Mem, mem_head, mem_tail, mem_nil, mem_cases, all_mem}
 use Rattle.table.specs.Layout.{Table, capacity, is_present, holds_hypermap}
 use Rattle.table.specs.Commands.{puts, takes_out, joins, cuts}
 use Rattle.table.specs.Runs.{AllAccepted}

@@ -1,5 +1,5 @@
 -- The words that a tape changes, command by command: an accepted ring changes four for each double-link, which swaps
--- two darts that differ, so all the words changed are four times the changes counted. Assumes nothing.
+-- two darts that differ, so all the words changed are four times the changes counted.
 use mathlib.Core.Path.{◌≡◌, refl}
 use mathlib.Core.Bool.{true, not}
 use mathlib.Core.List.{List, [], ◌∷◌}
@@ -8,9 +8,10 @@ use native.Mathlib.Omega.{arith}
 use lib.Dec.{eqb}
 use lib.ListN.{length}
 use borrow.Author.Tests.{eqb-false, not-true}
+use Rattle.lists.specs.Lists.{all}
+use Rattle.lists.proofs.Bools.{and_left, and_right}
 use Rattle.hypermap.specs.Hypermap.{edge}
-use Rattle.hypermap.specs.Ring.{DoubleLink, all_links, pairs_differ}
-use Rattle.hypermap.proofs.Basics.Bools.{and_left, and_right}
+use Rattle.hypermap.specs.Ring.{DoubleLink, pairs_differ}
 use Rattle.table.specs.Limits.{words_per_change}
 use Rattle.table.specs.Layout.{Table, holds_hypermap, hypermap_of}
 use Rattle.table.specs.Commands.{swapped}
@@ -29,7 +30,7 @@ use Rattle.needs.proofs.Differences.{swap_words, command_words}
 along_words :
     (ls : List DoubleLink) (w : Table) → holds_hypermap w ≡ true → are_darts (hypermap_of w) ls ≡ true →
     pairs_differ ls ≡ true → changed_along ls w ≡ words_per_change * length ls
-unfolding changed_along all_links
+unfolding changed_along all
 along_words [] w s t d = refl
 along_words (l ∷ ls) w s t d =
     let same = eqb l.first l.second in

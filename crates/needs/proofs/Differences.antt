@@ -1,5 +1,5 @@
 -- The words that a command changes: every accepted put, take-out, join and cut changes exactly four. Two tables differ
--- in as many words as any list of exactly those places has. Assumes nothing.
+-- in as many words as any list of exactly those places has.
 use mathlib.Core.Path.{◌≡◌, ap, sym, ◌∙◌}
 use mathlib.Core.Logic.{◌↔◌}
 use mathlib.Core.Bool.{Bool, true, false, not}
@@ -10,19 +10,17 @@ use lib.Dec.{eqb, ltb}
 use lib.ListN.{length, get_or, get_or-eq_default}
 use lib.Seq.{get_or-set_other}
 use borrow.Author.Tests.{eqb-false, ne_eqb, ltb-true, ltb-false, not-true}
-use Rattle.hypermap.specs.Lists.{among, keep, distinct}
+use Rattle.lists.specs.Lists.{among, keep, distinct, up_from}
+use Rattle.lists.proofs.Bools.{by_cases, clash}
+use Rattle.lists.proofs.Lists.{Mem, mem_nil, mem_cases, not_among, keep_mem, mem_kept, rising_keep, rising_distinct}
+use Rattle.lists.proofs.Lists.{pigeonhole}
+use Rattle.lists.proofs.Ranges.{mem_up_from, up_from_rising}
 use Rattle.hypermap.specs.Hypermap.{Dimension, of}
-use Rattle.hypermap.proofs.Basics.Bools.{by_cases, clash}
-use Rattle.hypermap.proofs.Basics.Lists.{Mem, mem_nil, mem_cases, not_among, keep_mem, mem_kept, rising_keep}
-use Rattle.hypermap.proofs.Basics.Lists.{rising_distinct}
-use Rattle.hypermap.proofs.Basics.Lists.{pigeonhole}
 use Rattle.table.specs.Limits.{hypermap_words, words_per_change}
-use Rattle.table.specs.Layout.{Table, capacity, up_from, place, word_at, next_word, back_word, is_present}
-use Rattle.table.specs.Layout.{holds_hypermap}
+use Rattle.table.specs.Layout.{Table, capacity, place, word_at, next_word, back_word, is_present, holds_hypermap}
 use Rattle.table.specs.Commands.{with_word, with_all, swapped, Command, puts, takes_out, joins, cuts, command_on}
 use Rattle.table.specs.Commands.{command_refusal, is_together}
 use Rattle.table.specs.Laws.{four_places, IsSwapped}
-use Rattle.table.proofs.Numbers.{mem_up_from, up_from_rising}
 use Rattle.table.proofs.Holding.{low, high, mem_present, links, empty}
 use Rattle.table.proofs.Writing.{each_word}
 use Rattle.table.proofs.Accepting.{Free, put_passed, Alone, take_out_passed, Joined, join_passed, cut_passed}

@@ -1,4 +1,4 @@
--- The greatest of a list, and of the numbers that a ring names on a tape, one after the other. Assumes nothing.
+-- The greatest of a list, and of the numbers that a ring names on a tape, one after the other.
 use mathlib.Core.Path.{◌≡◌, sym, ◌∙◌}
 use mathlib.Core.List.{List, [], ◌∷◌, ◌++◌, map}
 use Prim.Native.Nat.{ℕ, zero, suc, max, ◌+◌, ◌*◌, ◌-◌}
@@ -9,7 +9,7 @@ use Rattle.std.specs.Ordering.{nat_cmp, max_by_ordering}
 use Rattle.std.proofs.lemmas.List.Folds.{max_of_map}
 use lib.Dec.{ltb}
 use borrow.Author.Tests.{ltb-true, ltb-false}
-use Rattle.hypermap.proofs.Basics.Bools.{by_cases}
+use Rattle.lists.proofs.Bools.{by_cases}
 use Rattle.tape.specs.Tapes.{number_at, numbers_from}
 use Rattle.needs.specs.Amounts.{larger, greatest}
 

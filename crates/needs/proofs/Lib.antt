@@ -1,3 +1,4 @@
+-- Counting a tape command by command, and that what is counted is needed and suffices.
 pub mod Greatest
 pub mod Capacities
 pub mod Peaks

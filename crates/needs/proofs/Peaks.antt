@@ -1,5 +1,5 @@
 -- The peak of a tape: a beginning reaches it that reaches the peak of the rest, or the beginning of no command. And an
--- accepted put adds one dart to the table, a take-out removes one, and all else keeps the darts. Assumes nothing.
+-- accepted put adds one dart to the table, a take-out removes one, and all else keeps the darts.
 use mathlib.Core.Path.{◌≡◌, refl, ap, sym, ◌∙◌}
 use mathlib.Core.Bool.{true, false}
 use mathlib.Core.List.{List, [], ◌∷◌}
@@ -8,12 +8,11 @@ use native.Mathlib.Omega.{arith}
 use lib.Dec.{leb, eqb}
 use lib.ListN.{length, replicate, take}
 use borrow.Author.Tests.{eqb-true, eqb-false, leb-true, leb-false}
-use Rattle.hypermap.specs.Lists.{distinct}
+use Rattle.lists.specs.Lists.{distinct}
+use Rattle.lists.proofs.Bools.{by_cases, clash, refuted}
+use Rattle.lists.proofs.Lists.{mem_head, mem_tail, mem_cases, distinct_cons, rising_keep, rising_distinct, pigeonhole}
+use Rattle.lists.proofs.Sums.{kept_none}
 use Rattle.hypermap.specs.Hypermap.{Dimension}
-use Rattle.hypermap.proofs.Basics.Bools.{by_cases, clash, refuted}
-use Rattle.hypermap.proofs.Basics.Lists.{mem_head, mem_tail, mem_cases, distinct_cons, rising_keep, rising_distinct}
-use Rattle.hypermap.proofs.Basics.Lists.{pigeonhole}
-use Rattle.hypermap.proofs.Basics.Sums.{kept_none}
 use Rattle.hypermap.proofs.Laws.Jordan.{break_darts}
 use Rattle.table.specs.Layout.{Table, numbers, is_present, holds_hypermap, hypermap_of}
 use Rattle.table.specs.Commands.{with_all, swapped, puts, takes_out, joins, cuts}

@@ -1,4 +1,4 @@
--- A tape counted command by command: each command is added to the counts of those before it. Assumes nothing.
+-- A tape counted command by command: each command is added to the counts of those before it.
 use mathlib.Core.Path.{◌≡◌, refl, sym, ap, ◌∙◌}
 use mathlib.Core.Logic.{◌⊎◌, inl, inr, ⊎_elim}
 use mathlib.Core.List.{List, [], ◌∷◌, ◌++◌}
@@ -22,8 +22,8 @@ use Rattle.tape.specs.Inner.{meaning}
 use Rattle.tape.specs.declared.Instruction.{Instruction}
 use Rattle.tape.proofs.Contents.{rest_shorter, reading_law, size_fits}
 use Rattle.tape.proofs.Playing.{nothing_left, something_left}
-use Rattle.needs.specs.Amounts.{named_by, named_in, larger, greatest, puts_by, take_outs_by, peak_of, changes_by}
-use Rattle.needs.specs.Amounts.{total, needs_of, needed_by}
+use Rattle.needs.specs.Amounts.{named_by, named_in, larger, greatest, puts_by, take_outs_by, peak_of, changes_by, total}
+use Rattle.needs.specs.Amounts.{needs_of, needed_by}
 use Rattle.needs.specs.Replies.{needs_in}
 use Rattle.needs.specs.declared.Amounts.{Amounts}
 use Rattle.needs.specs.Inner.{peak_after, below_after, added, one_more}

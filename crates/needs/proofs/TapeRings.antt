@@ -1,4 +1,4 @@
--- How many double-links a ring on a tape has. Assumes nothing.
+-- How many double-links a ring on a tape has.
 use mathlib.Core.Path.{◌≡◌, refl, ap}
 use mathlib.Core.List.{List}
 use Prim.Native.Nat.{ℕ, zero, suc, ◌+◌, ◌*◌}

@@ -1,5 +1,5 @@
 -- What the commands of a tape ask for: the least capacity, the peak, and the words that they change. Document 02, Job
--- 1. Assumes nothing: these are definitions.
+-- 1.
 use Rattle.std.specs.Prelude.{cond, List, [], ◌∷◌, ◌++◌, ℕ, ◌+◌, ◌*◌, ◌-◌, ltb, eqb, length}
 use Rattle.table.specs.Limits.{words_per_change}
 use Rattle.table.specs.Commands.{puts, takes_out, joins, cuts, named}

@@ -1,4 +1,4 @@
--- What is counted of a tape command by command. Assumes nothing: these are definitions.
+-- What is counted of a tape command by command.
 use Rattle.std.specs.Prelude.{ℕ, ◌+◌, ◌*◌, ◌-◌, ◌≤◌}
 use Rattle.table.specs.Limits.{max_tape}
 use Rattle.tape.specs.Steps.{TapeCommand}

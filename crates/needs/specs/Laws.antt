@@ -1,11 +1,11 @@
--- What holds of the needs of a tape: each law is a type, and its proof a term of that type in proofs/. Document 02,
--- Job 1. Assumes nothing.
+-- What holds of the needs of a tape: each law is a type, and its proof a term of that type in proofs/. Document 02, Job
+-- 1.
 use Rattle.std.specs.Prelude.{◌≡◌, ◌↔◌, true, not, List, [], ◌∷◌, ℕ, ◌+◌, ◌*◌, ◌≤◌, eqb, length, get_or, take}
-use Rattle.hypermap.specs.Lists.{among, keep}
+use Rattle.lists.specs.Lists.{among, keep, up_from}
 use Rattle.hypermap.specs.Hypermap.{edge}
 use Rattle.hypermap.specs.Ring.{DoubleLink}
 use Rattle.table.specs.Limits.{words_per_change}
-use Rattle.table.specs.Layout.{Table, capacity, up_from, is_number, holds_hypermap, hypermap_of}
+use Rattle.table.specs.Layout.{Table, capacity, is_number, holds_hypermap, hypermap_of}
 use Rattle.table.specs.Commands.{command_on, swapped}
 use Rattle.table.specs.Runs.{AllAccepted}
 use Rattle.rings.specs.Rings.{links_of}

@@ -1,4 +1,4 @@
--- What the code's answer stands for: the reply that C is given. Assumes nothing: these are definitions.
+-- What the code's answer stands for: the reply that C is given.
 use Rattle.std.specs.Prelude.{Result, Ok, Err}
 use Rattle.table.specs.Replies.{number}
 use Rattle.table.specs.declared.refusals.Refusal.{Refusal}

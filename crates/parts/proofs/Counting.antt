@@ -1,42 +1,35 @@
 -- Adding up and counting in one pass over the numbers: what was met and what is still to come make up the whole.
--- Assumes nothing.
 use mathlib.Core.Path.{◌≡◌, refl, ap, ◌∙◌}
-use mathlib.Core.Bool.{Bool, true, false, ◌&&◌, cond}
-use mathlib.Core.List.{List, [], ◌∷◌}
-use Prim.Native.Nat.{ℕ, zero, suc, ◌+◌, ◌-◌, ◌≤◌, ◌<◌}
+use mathlib.Core.Bool.{Bool, true, false, cond}
+use mathlib.Core.List.{◌∷◌}
+use Prim.Native.Nat.{ℕ, zero, suc, ◌+◌, ◌≤◌, ◌<◌}
 use native.Mathlib.Numerals.{add-one}
 use native.Mathlib.Omega.{arith}
-use lib.ListN.{length, get_or, take, drop, replicate}
-use lib.Seq.{length-take-le, drop-cons}
+use lib.ListN.{length, take, replicate}
+use lib.Seq.{length-take-le}
 use lib.Dec.{ltb}
 use borrow.Author.Tests.{le-leb}
 use Rattle.std.specs.List.{filter, range_with_len}
-use Rattle.hypermap.specs.Lists.{keep, sum_of}
-use Rattle.hypermap.proofs.Basics.Bools.{by_cases}
-use Rattle.hypermap.proofs.Basics.Sums.{sum_ones}
+use Rattle.lists.specs.Lists.{keep, sum_of, up_from}
+use Rattle.lists.proofs.Bools.{by_cases}
+use Rattle.lists.proofs.Sums.{sum_ones}
+use Rattle.lists.proofs.Keeping.{left, left_first, left_next, left_none}
 use Rattle.table.specs.Limits.{max_capacity, edge_next}
-use Rattle.table.specs.Layout.{Table, capacity, up_from, word_at, is_present}
+use Rattle.table.specs.Layout.{Table, capacity, word_at, is_present}
 
 -- of the numbers from 1 to n that pass p, what f gives is added up below x
 pub record Summing (n : ℕ) (p : ℕ → Bool) (f : ℕ → ℕ) (x total : ℕ) : Type 0 where
   pub low : 1 ≤ x
   pub high : x ≤ n + 1
-  pub sum : total + sum_of f (keep p (up_from x (n + 1 - x))) ≡ sum_of f (keep p (up_from 1 n))
+  pub sum : total + sum_of f (left n p x) ≡ sum_of f (keep p (up_from 1 n))
 
 pub summing_none : (n : ℕ) (p : ℕ → Bool) (f : ℕ → ℕ) → Summing n p f 1 0
-summing_none n p f =
-    let e : n + 1 - 1 ≡ n = omega arith in
-    record { low = omega arith; high = omega arith; sum = rw e (omega arith) }
+summing_none n p f = record { low = omega arith; high = omega arith; sum = rw (left_first n p) (omega arith) }
 
 module _ (n : ℕ) (p : ℕ → Bool) (f : ℕ → ℕ) (x total : ℕ) (c : Summing n p f x total) where
-  next :
-      x ≤ n →
-      sum_of f (keep p (up_from x (n + 1 - x))) ≡
-      cond (p x) (f x) 0 + sum_of f (keep p (up_from (x + 1) (n + 1 - (x + 1))))
-  unfolding keep up_from sum_of
-  next h =
-      let e : n + 1 - x ≡ suc (n + 1 - (x + 1)) = omega arith in
-      rw (e, add-one x) (by_cases (p x) (λ t. rw t (omega arith)) (λ t. rw t (omega arith)))
+  next : x ≤ n → sum_of f (left n p x) ≡ cond (p x) (f x) 0 + sum_of f (left n p (x + 1))
+  unfolding sum_of
+  next h = rw (left_next n p x h) (by_cases (p x) (λ t. rw t (omega arith)) (λ t. rw t (omega arith)))
 
   pub summing_yes : x ≤ n → p x ≡ true → Summing n p f (x + 1) (total + f x)
   summing_yes h t =
@@ -47,10 +40,9 @@ module _ (n : ℕ) (p : ℕ → Bool) (f : ℕ → ℕ) (x total : ℕ) (c : Sum
       let e = rw t at (next h) in record { low = omega arith; high = omega arith; sum = omega (arith, c.sum) }
 
   pub summing_all : n < x → total ≡ sum_of f (keep p (up_from 1 n))
-  unfolding keep up_from sum_of
+  unfolding sum_of
   summing_all h =
-      let e : n + 1 - x ≡ 0 = omega arith in
-      let t : total + 0 ≡ sum_of f (keep p (up_from 1 n)) = rw e at c.sum in
+      let t : total + 0 ≡ sum_of f (keep p (up_from 1 n)) = rw (left_none n p x h) at c.sum in
       omega arith
 
 -- they are counted: each gives one
@@ -82,23 +74,6 @@ darts_kept w a (suc n) l h =
     let r = darts_kept w (suc a) n (omega arith) (omega arith) in
     rw (add-one a, le-leb 1 a l, le-leb a (capacity w) (omega arith))
     (by_cases (ltb 0 (word_at w a edge_next)) (λ t. rw t (ap (λ u. a ∷ u) r)) (λ t. rw t r))
-
--- two tests in turn are one
-pub keep_both : (p q : ℕ → Bool) (xs : List ℕ) → keep q (keep p xs) ≡ keep (λ x. p x && q x) xs
-unfolding keep
-keep_both p q [] = refl
-keep_both p q (x ∷ xs) = by_cases (p x) (λ t. rw (t, keep_both p q xs)) (λ t. rw t (keep_both p q xs))
-
--- the places of a list that pass a test, by their numbers or in a row
-pub keep_places :
-    (p : ℕ → Bool) (m : List ℕ) (a n : ℕ) → a + n ≤ length m →
-    length (filter p (take n (drop a m))) ≡ length (keep (λ x. p (get_or m (x - 1) 0)) (up_from (suc a) n))
-unfolding keep up_from
-keep_places p m a zero h = refl
-keep_places p m a (suc n) h =
-    let e = keep_places p m (suc a) n (omega arith) in
-    let i : suc a - 1 ≡ a = omega arith in
-    rw (drop-cons m a 0 (omega arith), i) (by_cases (p (get_or m a 0)) (λ t. rw t (ap suc e)) (λ t. rw t e))
 
 -- a part of a local array
 pub zeros_length : (n : ℕ) → n ≤ max_capacity → length {A = ℕ} (take n (replicate max_capacity 0)) ≡ n

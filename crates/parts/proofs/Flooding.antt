@@ -1,6 +1,6 @@
 -- A flood from face to face. Its queue is never emptied: it has the edge predecessor of each marked dart, and those
 -- before the head are marked. So once the head has come to the tail, the marked darts are closed under the steps of
--- faces and under edge predecessors, and that makes them the component. Assumes nothing.
+-- faces and under edge predecessors, and that makes them the component.
 use mathlib.Core.Path.{◌≡◌, refl, sym, ap, ◌∙◌}
 use mathlib.Core.Bool.{Bool, true, false, ◌&&◌}
 use mathlib.Core.List.{List}
@@ -10,13 +10,13 @@ use native.Mathlib.Omega.{arith}
 use lib.Dec.{ltb, eqb}
 use lib.ListN.{length, get_or, replicate, length-replicate, get_or-replicate}
 use borrow.Author.Tests.{eqb-true, eqb-false, eq-eqb, ne_eqb, ltb-true, ltb-false}
-use Rattle.hypermap.specs.Lists.{keep}
-use Rattle.hypermap.specs.Hypermap.{edge, is_hypermap, face, step, component_of, same_component}
-use Rattle.hypermap.specs.Hypermap.{orbit_of, is_least_in, faces, restrict, component_at}
+use Rattle.lists.specs.Lists.{keep}
+use Rattle.lists.proofs.Bools.{by_cases, clash, bool_ext, refuted, and_left, and_right, and_true}
+use Rattle.lists.proofs.Lists.{Mem, keep_shorter}
+use Rattle.lists.proofs.Sums.{kept_none}
+use Rattle.hypermap.specs.Hypermap.{edge, is_hypermap, face, step, component_of, same_component, orbit_of, is_least_in}
+use Rattle.hypermap.specs.Hypermap.{faces, restrict, component_at}
 use Rattle.hypermap.specs.Laws.{Equivalence, in_orbit, Closed}
-use Rattle.hypermap.proofs.Basics.Bools.{by_cases, clash, bool_ext, refuted, and_left, and_right, and_true}
-use Rattle.hypermap.proofs.Basics.Lists.{Mem, keep_shorter}
-use Rattle.hypermap.proofs.Basics.Sums.{kept_none}
 use Rattle.hypermap.proofs.Permutations.Connecting.{roam}
 use Rattle.hypermap.proofs.Permutations.Reaching.{ride}
 use Rattle.hypermap.proofs.Hypermaps.Restricting.{restrict_ext, closed_orbit, component_closed}
@@ -26,7 +26,8 @@ use Rattle.table.specs.Limits.{max_capacity}
 use Rattle.table.specs.Layout.{Table, capacity, is_present, holds_hypermap, hypermap_of}
 use Rattle.table.specs.Inner.{HypermapAt}
 use Rattle.table.proofs.Holding.{low, high, mem_present, table_hypermap, darts_few}
-use Rattle.parts.specs.Inner.{mark_at, HasMark, PartMarked, is_marked}
+use Rattle.parts.specs.MarkedSets.{is_marked}
+use Rattle.parts.specs.Marking.{mark_at, HasMark, PartMarked}
 use Rattle.parts.specs.Floods.{Front, front, HasPlaces, Entering, HasBack, Entered, Unmarked}
 use Rattle.parts.proofs.FaceByFace.{all_successors, one_more}
 use Rattle.parts.proofs.Walking.{orbit_parts}

@@ -1,4 +1,4 @@
--- Floods over all darts, which get one mark: what is found of each component adds up to the whole. Assumes nothing.
+-- Floods over all darts, which get one mark: what is found of each component adds up to the whole.
 use mathlib.Core.Path.{◌≡◌, refl, sym, ap, ◌∙◌, subst}
 use mathlib.Core.Bool.{true, false, ◌&&◌}
 use mathlib.Core.List.{List}
@@ -6,20 +6,21 @@ use Prim.Native.Nat.{ℕ, zero, suc, ◌+◌, ◌-◌, ◌≤◌, ◌<◌}
 use native.Mathlib.Omega.{arith}
 use lib.Dec.{eqb}
 use lib.ListN.{length, replicate, length-replicate}
-use Rattle.hypermap.specs.Lists.{sum_of, keep}
+use Rattle.lists.specs.Lists.{sum_of, keep}
+use Rattle.lists.proofs.Lists.{keep_shorter, zero_at}
+use Rattle.lists.proofs.Keeping.{keep_both}
 use Rattle.hypermap.specs.Hypermap.{Hypermap, face, orbit_of, component_of, is_least_in, component_at}
 use Rattle.hypermap.specs.Hypermap as theory
-use Rattle.hypermap.specs.Laws.{sum_over_components}
-use Rattle.hypermap.proofs.Basics.Lists.{keep_shorter}
+use Rattle.hypermap.specs.ComponentLaws.{sum_over_components}
 use Rattle.hypermap.proofs.Laws.ComponentGenus.{component_genus_law}
 use Rattle.table.specs.Limits.{max_capacity}
 use Rattle.table.specs.Layout.{Table, capacity, numbers, is_present, hypermap_of}
 use Rattle.table.proofs.Holding.{mem_present, table_hypermap, darts_few}
-use Rattle.table.proofs.Zeros.{zero_at}
 use Rattle.parts.specs.Counts as reports
 use Rattle.table.specs.Inner.{WithinCapacity}
-use Rattle.parts.specs.Inner.{mark_at, is_fresh, Skipped, PartMarked, flooded_of}
-use Rattle.parts.proofs.Counting.{Summing, summing_none, summing_yes, summing_no, summing_all, keep_both}
+use Rattle.parts.specs.MarkedSets.{flooded_of}
+use Rattle.parts.specs.Marking.{mark_at, is_fresh, Skipped, PartMarked}
+use Rattle.parts.proofs.Counting.{Summing, summing_none, summing_yes, summing_no, summing_all}
 use Rattle.parts.proofs.Marking.{fresh_not, Sweep, Pass, Passed, passed_none, is_first, passed_fresh, passed_other}
 use Rattle.parts.proofs.Marking.{passed_count, passed_inside}
 use Rattle.parts.proofs.LeastMarks.{holds_all}

@@ -1,5 +1,5 @@
 -- Sets of darts told by a mark: what was painted on zeros is such a set, a pass over its orbits counts them and raises
--- the mark, and the set stays the same. Assumes nothing.
+-- the mark, and the set stays the same.
 use mathlib.Core.Path.{◌≡◌, refl, sym, ap, ◌∙◌}
 use mathlib.Core.Bool.{Bool, true, ◌&&◌}
 use mathlib.Core.List.{List}
@@ -10,12 +10,13 @@ use lib.ListN.{length, take, replicate}
 use Rattle.std.specs.List.{count_by}
 use Rattle.std.proofs.lemmas.List.Sums.{length-filter}
 use borrow.Author.Tests.{eq-eqb, ne_eqb}
-use Rattle.hypermap.specs.Lists.{among, keep}
+use Rattle.lists.specs.Lists.{among, keep}
+use Rattle.lists.proofs.Bools.{by_cases, bool_ext, and_left, and_right, and_true}
+use Rattle.lists.proofs.Lists.{Mem, keep_ext, keep_shorter, zero_at}
+use Rattle.lists.proofs.Keeping.{keep_both, keep_places}
 use Rattle.hypermap.specs.Hypermap.{is_dart, is_hypermap, Kind, orbit_of, component_of, is_least_in, orbits, restrict}
 use Rattle.hypermap.specs.Hypermap.{component_at}
 use Rattle.hypermap.specs.Laws.{Closed}
-use Rattle.hypermap.proofs.Basics.Bools.{by_cases, bool_ext, and_left, and_right, and_true}
-use Rattle.hypermap.proofs.Basics.Lists.{Mem, keep_ext, keep_shorter}
 use Rattle.hypermap.proofs.Hypermaps.Totals.{links}
 use Rattle.hypermap.proofs.Hypermaps.Restricting.{restrict_ext, restrict_all, orbit_restrict, restrict_hypermap}
 use Rattle.hypermap.proofs.Hypermaps.Restricting.{closed_ext, closed_orbit, component_closed}
@@ -24,9 +25,8 @@ use Rattle.table.specs.Limits.{max_capacity}
 use Rattle.table.specs.Layout.{Table, capacity, numbers, is_present, holds_hypermap, hypermap_of}
 use Rattle.table.proofs.Holding.{low, mem_present, table_hypermap, darts_few}
 use Rattle.table.proofs.Numbers.{numbers_mem}
-use Rattle.table.proofs.Zeros.{zero_at}
-use Rattle.parts.specs.Inner.{mark_at, PartMarked, is_marked, marked_in, MarkedSet, Raised}
-use Rattle.parts.proofs.Counting.{keep_both, keep_places}
+use Rattle.parts.specs.MarkedSets.{is_marked, marked_in, MarkedSet, Raised}
+use Rattle.parts.specs.Marking.{mark_at, PartMarked}
 use Rattle.parts.proofs.Marking.{Holds, Sweep, Pass, Passed, passed_none, passed_count, passed_inside}
 use Rattle.parts.proofs.Walking.{orbit_parts}
 

@@ -1,4 +1,4 @@
--- The numbers of a report: they are small, and the genus is the one that Euler's equation gives. Assumes nothing.
+-- The numbers of a report: they are small, and the genus is the one that Euler's equation gives.
 use mathlib.Core.Path.{◌≡◌, ◌∙◌}
 use mathlib.Core.Bool.{true}
 use Prim.Native.Nat.{ℕ, ◌+◌, ◌*◌, ◌≤◌}
@@ -6,13 +6,13 @@ use native.Mathlib.Omega.{arith}
 use lib.IntN.{ℤ, pos, ◌+ℤ◌, ◌-ℤ◌}
 use lib.ListN.{length}
 use Rattle.std.proofs.lemmas.Int.{ints}
+use Rattle.lists.proofs.Lists.{keep_shorter}
 use Rattle.hypermap.specs.Hypermap.{edge, vertex, Hypermap, is_hypermap, Kind, of, face, orbit_of, component_of}
 use Rattle.hypermap.specs.Hypermap.{is_least_in, orbits, edges, vertices, faces, components, characteristic, genus}
-use Rattle.hypermap.proofs.Basics.Lists.{keep_shorter}
 use Rattle.hypermap.proofs.Laws.GenusTheorem.{euler_equation, genus_theorem}
 use Rattle.table.specs.Limits.{max_capacity}
 use Rattle.parts.specs.Counts.{lifts, counts_of}
-use Rattle.parts.specs.Inner.{Few, HasGenus}
+use Rattle.parts.specs.Counting.{Few, HasGenus}
 use Rattle.parts.specs.declared.Counts.{Counts}
 
 -- the counts of few darts under the names that the code has for them

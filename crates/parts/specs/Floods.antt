@@ -1,10 +1,10 @@
--- How a flood goes on from face to face. Assumes nothing: these are definitions.
+-- How a flood goes on from face to face.
 use Rattle.std.specs.Prelude.{◌≡◌, true, cond, List, [], ◌∷◌, ℕ, ◌+◌, ◌≤◌, ◌<◌, eqb, length, get_or}
 use Rattle.hypermap.specs.Hypermap.{edge, face, orbit_of, same_component}
 use Rattle.hypermap.specs.Laws.{in_orbit}
 use Rattle.table.specs.Limits.{max_capacity}
 use Rattle.table.specs.Layout.{Table, capacity, word_at, back_word, hypermap_of}
-use Rattle.parts.specs.Inner.{mark_at, MarkingAt, PartMarked}
+use Rattle.parts.specs.Marking.{mark_at, MarkingAt, PartMarked}
 
 -- the marks of a flood, and its queue up to the tail
 pub record Front : Type 0 where

@@ -7,8 +7,10 @@ ghost use Rattle.table.specs.Limits.{max_capacity, max_word};
 ghost use Rattle.table.specs.Layout.{hypermap_of};
 ghost use Rattle.table.specs.Inner.{kind_of, WithinCapacity, WithinCapacityAt};
 ghost use Rattle.parts.specs.Counts.{lifts, counts_of};
-ghost use Rattle.parts.specs.Inner.{Few, HasGenus, PartMarked, MarkedSet, marked_in, Raised};
-ghost use Rattle.parts.specs.Inner.{MarkedParts, flooded_of};
+ghost use Rattle.parts.specs.Counting.{Few, HasGenus};
+ghost use Rattle.parts.specs.MarkedSets.{MarkedSet, marked_in, Raised};
+ghost use Rattle.parts.specs.Marking.{PartMarked};
+ghost use Rattle.parts.specs.MarkedSets.{MarkedParts, flooded_of};
 
 use crate::edges::count_edges;
 use crate::flood::flood;

@@ -4,7 +4,8 @@
 ghost use Rattle.std.specs.Prelude.{◌≡◌, cond, ◌<◌};
 ghost use Rattle.hypermap.specs.Hypermap.{edges};
 ghost use Rattle.table.specs.Limits.{max_word};
-ghost use Rattle.parts.specs.Inner.{MarkingAt, MarkedSet, marked_in, is_tallied, EdgeLeft};
+ghost use Rattle.parts.specs.MarkedSets.{MarkedSet, marked_in, is_tallied, EdgeLeft};
+ghost use Rattle.parts.specs.Marking.{MarkingAt};
 
 use crate::marks::{mark_of, mark_orbit};
 use table::limits::{EDGE_BACK, EDGE_NEXT};

@@ -6,7 +6,7 @@ ghost use Rattle.hypermap.specs.Hypermap.{component_of, component_at, components
 ghost use Rattle.table.specs.Layout.{hypermap_of};
 ghost use Rattle.parts.specs.Marks.{component_marks};
 ghost use Rattle.table.specs.Inner.{WithinCapacityAtBoth};
-ghost use Rattle.parts.specs.Inner.{Marking, PartMarked};
+ghost use Rattle.parts.specs.Marking.{Marking, PartMarked};
 ghost use Rattle.parts.specs.Floods.{front, Entering, Entered, Unmarked};
 
 use crate::marks::{is_fresh, mark_dart, mark_of};

@@ -7,9 +7,9 @@ ghost use Rattle.hypermap.specs.Hypermap.{orbit_of, orbits};
 ghost use Rattle.table.specs.Layout.{hypermap_of};
 ghost use Rattle.table.specs.Inner.{InTable, kind_of};
 ghost use Rattle.parts.specs.Marks.{orbit_marks};
-ghost use Rattle.parts.specs.Inner.{Marking, MarkingAt, HasMark, mark_at, is_fresh, PartMarked, HasFour};
-ghost use Rattle.parts.specs.Inner.{four_marked};
-ghost use Rattle.parts.specs.Inner.{Skipping, Skipped};
+ghost use Rattle.parts.specs.Marking.{Marking, MarkingAt, HasMark, mark_at, is_fresh, PartMarked, HasFour};
+ghost use Rattle.parts.specs.Marking.{four_marked};
+ghost use Rattle.parts.specs.Marking.{Skipping, Skipped};
 
 use table::words::NEXT;
 use table::{Orbit, walk, words};

@@ -1,4 +1,4 @@
--- The lines of a run by its first command. Assumes nothing.
+-- The lines of a run by its first command.
 use mathlib.Core.Path.{◌≡◌, refl, ap, ◌∙◌}
 use mathlib.Core.List.{List, [], ◌++◌}
 use Prim.Native.Nat.{ℕ, ◌<◌}

@@ -1,4 +1,4 @@
--- A number in decimal is what std's formatting writes of it. Assumes nothing.
+-- A number in decimal is what std's formatting writes of it.
 use mathlib.Core.Path.{◌≡◌, ap}
 use mathlib.Core.List.{◌∷◌}
 use Prim.Native.Nat.{ℕ, suc, ◌^◌, ◌<◌}

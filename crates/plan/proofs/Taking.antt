@@ -1,5 +1,4 @@
--- The first command of a tape, accepted or refused: what it makes of the lines of the run and of the table. Assumes
--- nothing.
+-- The first command of a tape, accepted or refused: what it makes of the lines of the run and of the table.
 use mathlib.Core.Path.{◌≡◌, sym, ap, ◌∙◌}
 use mathlib.Core.List.{List, ◌++◌}
 use mathlib.Core.Logic.{inl, inr}

@@ -1,6 +1,6 @@
--- The lines of a run, written command after command. Assumes nothing.
-use Rattle.std.proofs.Common.{◌≡◌, List, [], ◌++◌, ℕ, length, drop, Option}
-use Rattle.std.proofs.Common.{refl, sym, ap, ◌∙◌, append_assoc, append-nil, Result, Ok, Err, OnOk}
+-- The lines of a run, written command after command.
+use Rattle.std.proofs.Common.{◌≡◌, List, [], ◌++◌, ℕ, length, drop, Option, refl, sym, ap, ◌∙◌, append_assoc}
+use Rattle.std.proofs.Common.{append-nil, Result, Ok, Err, OnOk}
 use Rattle.std.specs.Io.KnownBytes.{Appends}
 use Rattle.std.proofs.KnownBytes.{Appends-nil, Appends-trans}
 use Rattle.table.specs.Layout.{Table}

@@ -1,4 +1,4 @@
--- A writer with a buffer before it. Assumes nothing: these are definitions.
+-- A writer with a buffer before it.
 use Rattle.std.specs.Prelude.{List, ℕ, Option}
 use Rattle.std.specs.Io.KnownBytes.{append_known}
 use Rattle.plan.specs.declared.buffered.Buffered.{Buffered}

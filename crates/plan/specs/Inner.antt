@@ -1,4 +1,4 @@
--- What the program's functions write. Assumes nothing: these are definitions.
+-- What the program's functions write.
 use Rattle.std.specs.Prelude.{List, ℕ}
 use Rattle.table.specs.Layout.{Table, hypermap_of}
 use Rattle.parts.specs.Counts.{counts_of}

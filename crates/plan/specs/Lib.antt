@@ -1,3 +1,4 @@
+-- The lines that the program writes, and what a writer with a buffer holds.
 pub mod Lines
 pub mod Buffers
 pub mod Inner

@@ -1,8 +1,7 @@
 -- The lines that the program writes. Document 01: "It writes `ok` a command, the eight report numbers in the order
 -- above for 07, or `refused` and the number, then ends. .. numbers are decimal, a negative one with a minus in front."
--- Assumes nothing: these are definitions.
-use Rattle.std.specs.Prelude.{cond, List, [], ◌∷◌, ◌++◌, length, replicate, ℕ, zero, suc, ◌+◌, ◌*◌, ◌/◌, ◌%◌}
-use Rattle.std.specs.Prelude.{ltb, leb, eqb, ℤ, pos, negsuc}
+use Rattle.std.specs.Prelude.{cond, List, [], ◌∷◌, ◌++◌, length, replicate, ℕ, zero, suc, ◌+◌, ◌*◌, ◌/◌, ◌%◌, ltb, leb}
+use Rattle.std.specs.Prelude.{eqb, ℤ, pos, negsuc}
 use Rattle.table.specs.Limits.{words_per_dart, max_capacity, max_tape}
 use Rattle.table.specs.Refusals.{wrong_size}
 use Rattle.table.specs.Layout.{Table, hypermap_of}

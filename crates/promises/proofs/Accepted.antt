@@ -1,5 +1,5 @@
 -- What a public call that was not refused has passed, that what has passed is not refused, and what an accepted report
--- gives. Assumes nothing.
+-- gives.
 use mathlib.Core.Path.{◌≡◌, refl, sym, ◌∙◌}
 use mathlib.Core.Bool.{Bool, true, false}
 use mathlib.Core.List.{List, [], ◌∷◌}
@@ -7,9 +7,9 @@ use Prim.Native.Nat.{ℕ, ◌≤◌}
 use lib.Dec.{eqb, leb}
 use lib.ListN.{length}
 use borrow.Author.Tests.{eqb-true, eqb-false, eq-eqb, le-leb}
-use Rattle.hypermap.specs.Lists.{all}
+use Rattle.lists.specs.Lists.{all}
+use Rattle.lists.proofs.Bools.{by_cases}
 use Rattle.hypermap.specs.Hypermap.{Hypermap, edges, vertices, faces, components, characteristic, genus, component_at}
-use Rattle.hypermap.proofs.Basics.Bools.{by_cases}
 use Rattle.table.specs.Refusals.{short_room, or_else, unless}
 use Rattle.table.specs.Layout.{Table, is_present, hypermap_of}
 use Rattle.table.specs.Commands.{Command, presence_refusal, command_refusal, command_on, leaves}

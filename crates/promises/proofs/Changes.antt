@@ -1,6 +1,6 @@
 -- The second demand for changes: when a put, a take-out, a join, a cut or a ring is accepted, what it leaves, and that
 -- a sound table stays sound. A call that is not refused has a sound table and darts of it, to which the laws of tables
--- and rings apply. Assumes nothing.
+-- and rings apply.
 use mathlib.Core.Path.{◌≡◌, refl, sym, ◌∙◌}
 use mathlib.Core.Bool.{true}
 use mathlib.Core.List.{List}
@@ -8,16 +8,15 @@ use Prim.Native.Nat.{ℕ}
 use lib.Dec.{eqb}
 use lib.ListN.{length}
 use borrow.Author.Tests.{eqb-true}
+use Rattle.lists.proofs.Bools.{by_cases}
 use Rattle.hypermap.specs.Hypermap.{Dimension}
 use Rattle.hypermap.specs.Change.{change}
 use Rattle.hypermap.specs.Ring.{break_along}
-use Rattle.hypermap.proofs.Basics.Bools.{by_cases}
 use Rattle.table.specs.Layout.{Table, is_present, holds_hypermap, hypermap_of}
 use Rattle.table.specs.Commands.{Command, puts, takes_out, joins, cuts, swapped, is_together, command_on, leaves}
 use Rattle.table.specs.Laws.{Holds, AddsDart}
 use Rattle.table.proofs.Accepting.{put_passed, put_fits, take_out_passed, take_out_fits, join_passed, join_fits}
-use Rattle.table.proofs.Accepting.{cut_passed}
-use Rattle.table.proofs.Accepting.{cut_fits}
+use Rattle.table.proofs.Accepting.{cut_passed, cut_fits}
 use Rattle.table.proofs.Commands.{keeps_hypermap_law}
 use Rattle.table.proofs.Holding.{mem_present}
 use Rattle.table.proofs.Putting.{put_law, take_out_law}

@@ -1,15 +1,15 @@
 -- The promises of the report of one component: what is counted is the hypermap of that component, which is connected,
--- and over all components the counts add up. Assumes nothing.
+-- and over all components the counts add up.
 use mathlib.Core.Path.{◌≡◌, sym, ap, ◌∙◌}
 use mathlib.Core.Bool.{true}
 use mathlib.Core.List.{[], ◌∷◌}
 use Prim.Native.Nat.{ℕ}
 use lib.ListN.{length}
+use Rattle.lists.proofs.Lists.{Mem}
+use Rattle.lists.proofs.Sums.{sum_ext, sum_of_integers_ext}
 use Rattle.hypermap.specs.Hypermap.{edge, vertex, Hypermap, is_hypermap, of, face, edges, vertices, faces, components}
 use Rattle.hypermap.specs.Hypermap.{genus, component_at}
-use Rattle.hypermap.specs.Laws.{representatives, sum_over_components, IsConnected, AddsUp}
-use Rattle.hypermap.proofs.Basics.Lists.{Mem}
-use Rattle.hypermap.proofs.Basics.Sums.{sum_ext, sum_of_integers_ext}
+use Rattle.hypermap.specs.ComponentLaws.{representatives, sum_over_components, IsConnected, AddsUp}
 use Rattle.hypermap.proofs.Laws.Components.{component_law}
 use Rattle.hypermap.proofs.Laws.ComponentGenus.{component_shared, representative_dart, component_genus_law}
 use Rattle.table.specs.Layout.{Table, hypermap_of}

@@ -1,5 +1,5 @@
 -- Job 6: a question that is not refused has a sound table and darts of it, to which the law of distances applies; joins
--- and cuts are accepted by the same test. Assumes nothing.
+-- and cuts are accepted by the same test.
 use mathlib.Core.Path.{◌≡◌, refl, sym, ◌∙◌}
 use mathlib.Core.Logic.{◌↔◌}
 use mathlib.Core.Bool.{Bool, true, false, not}
@@ -9,10 +9,11 @@ use native.Mathlib.Omega.{arith}
 use lib.Dec.{ltb, eqb}
 use borrow.Author.Tests.{eqb-true, eqb-false, ltb-true, lt-ltb, not-true}
 use Rattle.std.specs.Prelude.{unwrap_or}
+use Rattle.lists.specs.Lists.{all}
+use Rattle.lists.proofs.Bools.{by_cases, clash, and_left, and_right, and_true}
 use Rattle.hypermap.specs.Hypermap.{Dimension, edge, vertex, is_dart, of, distance, same_orbit}
 use Rattle.hypermap.specs.Laws.{IsDistance}
-use Rattle.hypermap.specs.Ring.{DoubleLink, is_double_link, all_links, pairs_differ}
-use Rattle.hypermap.proofs.Basics.Bools.{by_cases, clash, and_left, and_right, and_true}
+use Rattle.hypermap.specs.Ring.{DoubleLink, is_double_link, pairs_differ}
 use Rattle.hypermap.proofs.Laws.Orbits.{same_orbit_law}
 use Rattle.hypermap.proofs.Laws.Distances.{distance_law}
 use Rattle.table.specs.Layout.{Table, capacity, hypermap_of}
@@ -134,21 +135,21 @@ module _ (w : Table) where
   is_some l = ltb 0 (asked w edge l.first l.second).count
 
   links_some :
-      table_refusal w ≡ 0 → (ls : List DoubleLink) → all_links (is_double_link (hypermap_of w)) ls ≡ true →
-      pairs_differ ls ≡ true → all_links is_some ls ≡ true
-  unfolding all_links
+      table_refusal w ≡ 0 → (ls : List DoubleLink) → all (is_double_link (hypermap_of w)) ls ≡ true →
+      pairs_differ ls ≡ true → all is_some ls ≡ true
+  unfolding all
   links_some t [] d p = refl
   links_some t (l ∷ ls) d p =
       let a = l.first in
       let b = l.second in
       let z = fits w a b t (search (and_left, and_right)) (search (and_left, and_right)) in
       let n = eqb-false a b (not-true (eqb a b) (and_left (not (eqb a b)) (pairs_differ ls) p)) in
-      and_true (is_some l) (all_links is_some ls)
+      and_true (is_some l) (all is_some ls)
       (rw (asked_given w edge a b z) (lt-ltb 0 _ ((apart_some w edge a b z).1 (search (and_left, and_right), n))))
-      (links_some t ls (and_right (is_double_link (hypermap_of w) l) (all_links (is_double_link (hypermap_of w)) ls) d)
+      (links_some t ls (and_right (is_double_link (hypermap_of w) l) (all (is_double_link (hypermap_of w)) ls) d)
       (and_right (not (eqb a b)) (pairs_differ ls) p))
 
-  rings_by : (ring : List ℕ) → ring_call_refusal w ring ≡ 0 → all_links is_some (links_of ring) ≡ true
+  rings_by : (ring : List ℕ) → ring_call_refusal w ring ≡ 0 → all is_some (links_of ring) ≡ true
   rings_by ring e =
       let r = (ring_accepted w ring).0 e in
       let f = ring_to (hypermap_of w) (links_of ring) r.2 in

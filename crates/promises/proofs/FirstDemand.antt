@@ -1,5 +1,5 @@
 -- The customer's first demand for the public calls: each refusal is one of the call's published numbers, being the
--- first of stages that each have one, and a refused call leaves what it was lent as it was. Assumes nothing.
+-- first of stages that each have one, and a refused call leaves what it was lent as it was.
 use mathlib.Core.Path.{◌≡◌, refl, sym, ap, ◌∙◌}
 use mathlib.Core.Bool.{Bool, true}
 use mathlib.Core.List.{List, [], ◌∷◌}
@@ -9,9 +9,9 @@ use native.Mathlib.Omega.{arith}
 use lib.Dec.{eqb}
 use lib.ListN.{length, length-take, length-drop}
 use borrow.Author.Tests.{eq-eqb, ne_eqb}
-use Rattle.hypermap.specs.Lists.{among}
+use Rattle.lists.specs.Lists.{among}
+use Rattle.lists.proofs.Bools.{by_cases}
 use Rattle.hypermap.specs.Hypermap.{Hypermap}
-use Rattle.hypermap.proofs.Basics.Bools.{by_cases}
 use Rattle.table.specs.Refusals.{short_room}
 use Rattle.table.specs.Limits.{words_per_dart}
 use Rattle.table.specs.Layout.{Table}
@@ -25,14 +25,13 @@ use Rattle.rings.specs.Rings.{links_of, cut_along}
 use Rattle.tape.specs.Steps.{step_rule}
 use Rattle.tape.specs.Tapes.{contents_of}
 use Rattle.kernel.specs.Calls.{call_refusal, call_leaves, ring_call_refusal, ring_call_leaves, report_on}
-use Rattle.kernel.specs.Calls.{question_refusal, answer, same_answer, list_refusal, list_leaves}
-use Rattle.kernel.specs.Calls.{list_answer, look_of}
+use Rattle.kernel.specs.Calls.{question_refusal, answer, same_answer, list_refusal, list_leaves, list_answer, look_of}
 use Rattle.soundness.specs.Soundness.{tape_refusal}
 use Rattle.kernel.specs.Tapes.{play_refusal, play_outcome, screen_refusal, screen_leaves}
 use Rattle.promises.specs.FirstDemand.{Refuses, RefusesAnswer, RefusesReport, FirstDemand}
 use Rattle.kernel.proofs.Judging.{darts_ready}
-use Rattle.promises.proofs.RefusalNumbers.{One, unless_one, or_else_one, table_one, presence_one, command_one}
-use Rattle.promises.proofs.RefusalNumbers.{ring_one, play_one, run_one}
+use Rattle.promises.proofs.RefusalNumbers.{One, unless_one, or_else_one, table_one, presence_one, command_one, ring_one}
+use Rattle.promises.proofs.RefusalNumbers.{play_one, run_one}
 use Rattle.promises.proofs.Accepted.{play_ran, answer_number}
 
 -- WHAT A REFUSED CALL LEAVES AND ANSWERS

@@ -1,14 +1,14 @@
 -- The refusals of the calls that bring a journal: each is one of the call's numbers, and what a refused call leaves is
--- what came, but for a stopped run and a stopped going back, which are folds. Assumes nothing.
+-- what came, but for a stopped run and a stopped going back, which are folds.
 use mathlib.Core.Path.{◌≡◌, refl, ap, sym}
 use mathlib.Core.List.{List, [], ◌∷◌, ◌++◌}
 use Prim.Native.Nat.{ℕ}
 use lib.Dec.{eqb}
 use lib.ListN.{length}
 use borrow.Author.Tests.{eq-eqb, ne_eqb}
-use Rattle.hypermap.specs.Lists.{all, among}
-use Rattle.hypermap.proofs.Basics.Bools.{by_cases}
-use Rattle.hypermap.proofs.Basics.Lists.{Mem, mem_head, mem_tail, mem_nil, mem_cases}
+use Rattle.lists.proofs.Lists.{mem_first, mem_second, Mem}
+use Rattle.lists.specs.Lists.{all, among}
+use Rattle.lists.proofs.Bools.{by_cases}
 use Rattle.table.specs.Refusals.{undo_unfit, journal_full}
 use Rattle.table.specs.Runs.{stopped}
 use Rattle.table.proofs.Stages.{refused}
@@ -19,23 +19,13 @@ use Rattle.journal.specs.Heads.{room_refusal, head_refusal, set_refusal, back_re
 use Rattle.journal.specs.Journaling.{Recorded, journaled_refusal, journal_rule}
 use Rattle.journal.specs.Undoing.{undo_refusal, undo_rule}
 use Rattle.journal_calls.specs.Calls.{State, recorded_in, reply_by, state_refusal, perform_refusal}
-use Rattle.journal_calls.specs.Calls.{journal_play_refusal}
-use Rattle.journal_calls.specs.Calls.{ran_from, play_reply, checkpoint_refusal, back_call_refusal, undoing_to}
-use Rattle.journal_calls.specs.Calls.{went_back}
-use Rattle.journal_calls.specs.Calls.{back_reply, Call, performs, plays, sets_checkpoint, goes_back, reply}
+use Rattle.journal_calls.specs.Calls.{journal_play_refusal, ran_from, play_reply, checkpoint_refusal, back_call_refusal}
+use Rattle.journal_calls.specs.Calls.{undoing_to, went_back, back_reply, Call, performs, plays, sets_checkpoint}
+use Rattle.journal_calls.specs.Calls.{goes_back, reply}
 use Rattle.promises.specs.FirstDemand.{table_refusals, ring_refusals, run_refusals, command_refusals}
 use Rattle.promises.specs.Journals.{journal_refusals}
 use Rattle.promises.proofs.RefusalNumbers.{One, none, unless_one, or_else_one, table_one, widen, rest_one, table_first}
 use Rattle.promises.proofs.RefusalNumbers.{ring_rest, step_one, contents_one, fold_one}
-
--- NUMBERS. The plain call's, and then the journal's
-mem_first : (x : ℕ) (xs ys : List ℕ) → Mem x xs → Mem x (xs ++ ys)
-mem_first x [] ys m = mem_nil x m
-mem_first x (y ∷ xs) ys m = mem_cases x y xs m (λ e. rw e (mem_head y _)) (λ k. mem_tail x y _ (mem_first x xs ys k))
-
-mem_second : (x : ℕ) (xs ys : List ℕ) → Mem x ys → Mem x (xs ++ ys)
-mem_second x [] ys m = m
-mem_second x (y ∷ xs) ys m = mem_tail x y _ (mem_second x xs ys m)
 
 module _ {n : ℕ} (ns ms : List ℕ) where
   first : One n ns → One n (ns ++ ms)

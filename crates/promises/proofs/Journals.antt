@@ -1,5 +1,5 @@
 -- Job 5, named states to come back to: the plain calls are undone by their opposites, a ring is its cuts, and a
--- journaled call changes the table as the plain call does. Assumes nothing.
+-- journaled call changes the table as the plain call does.
 use mathlib.Core.Path.{◌≡◌, refl, ap, sym, ◌∙◌}
 use mathlib.Core.List.{List, [], ◌∷◌}
 use Prim.Native.Nat.{ℕ}
@@ -20,8 +20,7 @@ use Rattle.journal.specs.Entries.{Entry}
 use Rattle.journal.specs.Journaling.{Recorded, journaled_refusal, journaled_on, journal_rule}
 use Rattle.journal.specs.Undoing.{undo_rule}
 use Rattle.journal_calls.specs.Calls.{State, recorded_in, with_recorded, state_refusal, perform_refusal}
-use Rattle.journal_calls.specs.Calls.{checkpoint_refusal}
-use Rattle.journal_calls.specs.Calls.{performs, reply}
+use Rattle.journal_calls.specs.Calls.{checkpoint_refusal, performs, reply}
 use Rattle.promises.specs.Journals.{IsUndone, call_rule, IsItsCuts, JournalPromise}
 use Rattle.promises.proofs.Accepted.{call_passed, call_fits, accepted_leaves, ring_passed, ring_fits, ring_leaves}
 use Rattle.promises.proofs.Changes.{command_stays}

@@ -1,3 +1,4 @@
+-- The proof of each demand and promise. Promises has them in one record.
 pub mod Accepted
 pub mod RefusalNumbers
 pub mod FirstDemand

@@ -1,5 +1,4 @@
 -- A report's lifts are the components less the darts that are alone: its table is sound, so the law of lifts applies.
--- Assumes nothing.
 use Rattle.table.specs.Layout.{hypermap_of}
 use Rattle.table.proofs.Holding.{table_hypermap}
 use Rattle.parts.proofs.Lifting.{lifts_law}

@@ -1,4 +1,4 @@
--- Every promise, proved: each field by the term that proves it. Assumes nothing.
+-- Every promise, proved: each field by the term that proves it.
 use Rattle.promises.specs.Promises.{Promises}
 use Rattle.promises.proofs.FirstDemand.{first_demand}
 use Rattle.promises.proofs.SecondDemand.{second_demand}

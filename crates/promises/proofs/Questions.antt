@@ -1,5 +1,5 @@
 -- The second demand for questions: what two darts share, rounds, component marks and reports. A question that is not
--- refused has a sound table and darts of it, to which the laws of orbits and components apply. Assumes nothing.
+-- refused has a sound table and darts of it, to which the laws of orbits and components apply.
 use mathlib.Core.Path.{◌≡◌, refl, ap, sym, ◌∙◌}
 use mathlib.Core.Logic.{◌↔◌}
 use mathlib.Core.Bool.{true, false}
@@ -8,6 +8,7 @@ use Prim.Native.Nat.{ℕ, ◌+◌, ◌-◌, ◌≤◌}
 use native.Mathlib.Omega.{arith}
 use lib.ListN.{length, get_or, drop}
 use borrow.Author.Tests.{eq-eqb}
+use Rattle.lists.proofs.Ranges.{map_up_from}
 use Rattle.hypermap.specs.Hypermap.{edge, vertex, of, face, is_dart, is_hypermap, component_of, component_at}
 use Rattle.hypermap.specs.Laws.{Connects}
 use Rattle.hypermap.proofs.Laws.Orbits.{orbit_law}
@@ -23,7 +24,7 @@ use Rattle.parts.specs.Marks.{mark_of, marks_of, component_marks}
 use Rattle.parts.specs.Sharing.{is_same, steps_round}
 use Rattle.parts.specs.declared.Part.{Part}
 use Rattle.parts.specs.declared.Part.TheVariants.{Edge, Vertex, Face, Component}
-use Rattle.parts.proofs.LeastMarks.{marks_length, map_up_from}
+use Rattle.parts.proofs.LeastMarks.{marks_length}
 use Rattle.soundness.specs.Soundness.{table_refusal}
 use Rattle.soundness.proofs.Passing.{table_passed}
 use Rattle.kernel.specs.Calls.{question_refusal, same_answer, list_refusal, list_leaves, list_answer, round_of}

@@ -1,15 +1,15 @@
--- Each refusal is one of the call's published numbers, being the first of stages that each have one. Assumes nothing.
+-- Each refusal is one of the call's published numbers, being the first of stages that each have one.
 use mathlib.Core.Path.{◌≡◌, refl}
 use mathlib.Core.Bool.{Bool, true, false}
 use mathlib.Core.List.{List, [], ◌∷◌}
 use Prim.Native.Nat.{ℕ, zero, suc}
 use lib.Dec.{eqb}
 use lib.ListN.{length}
-use Rattle.hypermap.specs.Lists.{all, among}
-use Rattle.hypermap.proofs.Basics.Bools.{by_cases}
-use Rattle.hypermap.proofs.Basics.Lists.{all_mem}
-use Rattle.table.specs.Refusals.{wrong_size, bent_table, off_the_table, no_tab, unknown_command, torn_command}
-use Rattle.table.specs.Refusals.{or_else, unless}
+use Rattle.lists.specs.Lists.{all, among}
+use Rattle.lists.proofs.Bools.{by_cases}
+use Rattle.lists.proofs.Lists.{all_mem}
+use Rattle.table.specs.Refusals.{wrong_size, bent_table, off_the_table, no_tab, unknown_command, torn_command, or_else}
+use Rattle.table.specs.Refusals.{unless}
 use Rattle.table.specs.Layout.{Table}
 use Rattle.table.specs.Commands.{Command, puts, takes_out, joins, cuts, presence_refusal, command_refusal}
 use Rattle.table.specs.Runs.{Rule, run_by}
@@ -19,8 +19,7 @@ use Rattle.tape.specs.Tapes.{read_refusal, rest_of, contents_by}
 use Rattle.soundness.specs.Soundness.{table_refusal, tape_refusal}
 use Rattle.kernel.specs.Calls.{call_refusal, ring_call_refusal}
 use Rattle.kernel.specs.Tapes.{play_refusal, play_outcome}
-use Rattle.promises.specs.FirstDemand.{OneOf, table_refusals, command_refusals, ring_refusals}
-use Rattle.promises.specs.FirstDemand.{run_refusals}
+use Rattle.promises.specs.FirstDemand.{OneOf, table_refusals, command_refusals, ring_refusals, run_refusals}
 
 -- ONE NUMBER: a record, for from its type the numbers are known at each stage
 pub record One (n : ℕ) (ns : List ℕ) : Type 0 where

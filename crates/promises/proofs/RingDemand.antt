@@ -1,16 +1,17 @@
--- The third demand for ring cuts: an accepted call has a sound table and an accepted list, to which Theorem 2.9
--- applies where the ring's own component is planar. On a planar plan every component is. Assumes nothing.
+-- The third demand for ring cuts: an accepted call has a sound table and an accepted list, to which Theorem 2.9 applies
+-- where the ring's own component is planar. On a planar plan every component is.
 use mathlib.Core.Path.{◌≡◌, refl, sym, ap, ◌∙◌}
 use mathlib.Core.Bool.{true, false}
 use mathlib.Core.List.{List, [], ◌∷◌}
 use Prim.Native.Nat.{ℕ, suc}
 use native.Mathlib.Omega.{arith}
 use borrow.Author.Tests.{eqb-true, eq-eqb}
+use Rattle.lists.specs.Lists.{all}
+use Rattle.lists.proofs.Bools.{and_left, and_right}
+use Rattle.lists.proofs.Lists.{Mem}
 use Rattle.hypermap.specs.Hypermap.{is_dart, is_hypermap, genus, is_planar, component_at}
-use Rattle.hypermap.specs.Ring.{DoubleLink, all_links}
+use Rattle.hypermap.specs.Ring.{DoubleLink}
 use Rattle.hypermap.specs.RingLaws.{IsParted}
-use Rattle.hypermap.proofs.Basics.Bools.{and_left, and_right}
-use Rattle.hypermap.proofs.Basics.Lists.{Mem}
 use Rattle.hypermap.proofs.Laws.ComponentGenus.{genus_below}
 use Rattle.hypermap.proofs.Laws.Jordan.{break_darts}
 use Rattle.table.specs.Layout.{Table, holds_hypermap, hypermap_of}
@@ -23,8 +24,7 @@ use Rattle.rings.specs.Laws.{IsCut, are_darts}
 use Rattle.rings.proofs.Conditions.{some_links, conditions_law}
 use Rattle.rings.proofs.Parting.{accepted_darts, accepted_cut, parting_law, planar_parting_law}
 use Rattle.soundness.specs.Soundness.{table_refusal}
-use Rattle.kernel.specs.Calls.{totals_of, report_of, ring_call_refusal, question_refusal}
-use Rattle.kernel.specs.Calls.{component_report_of}
+use Rattle.kernel.specs.Calls.{totals_of, report_of, ring_call_refusal, question_refusal, component_report_of}
 use Rattle.promises.specs.ThirdDemand.{IsPartedByReports, ComponentRingDemand, IsRingCut, RingDemand}
 use Rattle.kernel.proofs.Answering.{given_report}
 use Rattle.soundness.proofs.Passing.{table_passed, table_fits, size_stays, holds_sound}
@@ -65,7 +65,7 @@ module _ (w : Table) (ws : List ℕ) (e : ring_call_refusal w ws ≡ 0) where
   -- THE RING'S OWN COMPONENT
   module _ (l : DoubleLink) (ls : List DoubleLink) (q : links_of ws ≡ l ∷ ls) where
     in_ring : (Mem l.first (hypermap_of w).darts) × (Mem l.second (hypermap_of w).darts)
-    unfolding all_links
+    unfolding all
     in_ring =
         let d = and_left _ (are_darts (hypermap_of w) ls) (rw q at (accepted_darts w ws f)) in
         (and_left (is_dart (hypermap_of w) l.first) _ d, and_right (is_dart (hypermap_of w) l.first) _ d)

@@ -1,5 +1,4 @@
 -- No round passes the capacity: a dart that is not refused is one of a sound table, and the law of lengths applies.
--- Assumes nothing.
 use mathlib.Core.Path.{◌≡◌}
 use mathlib.Core.List.{[], ◌∷◌}
 use Prim.Native.Nat.{ℕ, ◌≤◌}

@@ -1,13 +1,12 @@
--- The second demand: what the public calls accept, change and answer is what the definition of a hypermap says. Assumes
--- nothing.
+-- The second demand: what the public calls accept, change and answer is what the definition of a hypermap says.
 use Rattle.hypermap.proofs.Theory.{theory}
 use Rattle.table.proofs.OnlyTables.{table_law}
 use Rattle.table.proofs.Holding.{hypermap_law}
 use Rattle.soundness.proofs.Passing.{table_passed, table_fits, holds_sound}
 use Rattle.promises.specs.SecondDemand.{SecondDemand}
 use Rattle.promises.proofs.Changes.{put_accepted, put_adds, take_out_accepted, take_out_removes, join_accepted}
-use Rattle.promises.proofs.Changes.{join_changes, cut_accepted, cut_changes, ring_accepted, ring_breaks}
-use Rattle.promises.proofs.Changes.{command_stays, ring_stays, run_stays}
+use Rattle.promises.proofs.Changes.{join_changes, cut_accepted, cut_changes, ring_accepted, ring_breaks, command_stays}
+use Rattle.promises.proofs.Changes.{ring_stays, run_stays}
 use Rattle.promises.proofs.Questions.{same, round, marks, report, component_report}
 use Rattle.promises.proofs.Tapes.{built, short, only_tape, screen}
 

@@ -1,5 +1,4 @@
--- The call for a tape's needs keeps its promise: what it counts is what a run that nothing stops goes through. Assumes
--- nothing.
+-- The call for a tape's needs keeps its promise: what it counts is what a run that nothing stops goes through.
 use mathlib.Core.Path.{◌≡◌, refl, sym, ap, ◌∙◌}
 use mathlib.Core.Bool.{true}
 use mathlib.Core.List.{List, [], ◌∷◌}
@@ -8,8 +7,8 @@ use native.Mathlib.Omega.{arith}
 use lib.Dec.{eqb}
 use lib.ListN.{length}
 use borrow.Author.Tests.{eqb-true, eqb-false, eq-eqb}
-use Rattle.hypermap.specs.Lists.{among, all}
-use Rattle.hypermap.proofs.Basics.Bools.{by_cases}
+use Rattle.lists.specs.Lists.{among, all}
+use Rattle.lists.proofs.Bools.{by_cases}
 use Rattle.table.specs.Refusals.{wrong_size, unknown_command, torn_command}
 use Rattle.table.specs.Limits.{words_per_dart}
 use Rattle.table.specs.Layout.{Table, capacity, holds_hypermap}

@@ -1,5 +1,5 @@
 -- The second demand for tapes: a canonical tape builds its table and no other, and the screen gets the report and the
--- tape of a sound table. Assumes nothing.
+-- tape of a sound table.
 use mathlib.Core.Path.{◌≡◌, refl, ap, sym}
 use mathlib.Core.List.{List, ◌∷◌, ◌++◌}
 use Prim.Native.Nat.{ℕ, ◌*◌, ◌%◌, ◌≤◌}
@@ -7,7 +7,7 @@ use native.Mathlib.Omega.{arith}
 use lib.Dec.{leb}
 use lib.ListN.{length, drop, replicate, length-replicate}
 use borrow.Author.Tests.{eq-eqb, le-leb}
-use Rattle.hypermap.proofs.Basics.Bools.{and_true}
+use Rattle.lists.proofs.Bools.{and_true}
 use Rattle.table.specs.Limits.{words_per_dart, max_capacity, longest_canonical, screen_room}
 use Rattle.table.specs.Refusals.{short_room, unless}
 use Rattle.table.specs.Layout.{Table, capacity, hypermap_of}

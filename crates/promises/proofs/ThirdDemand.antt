@@ -1,6 +1,6 @@
 -- The customer's third demand for the public calls: a table that a report accepts is sound and holds a hypermap, to
 -- which the genus theorem and the join criterion apply; the four words that a join writes are the change of that
--- hypermap. Assumes nothing.
+-- hypermap.
 use mathlib.Core.Path.{◌≡◌, ap, sym, ◌∙◌}
 use mathlib.Core.Bool.{true, false, not}
 use mathlib.Core.Logic.{inl, inr, ⊎_elim, ◌↔◌}
@@ -10,10 +10,10 @@ use lib.Dec.{ltb}
 use lib.IntN.{pos, ◌-ℤ◌, +ℤ_comm, +ℤ-neg_ℤ_cancel}
 use lib.ListN.{length}
 use borrow.Author.Tests.{ltb-true, ltb-false, not-true}
+use Rattle.lists.proofs.Bools.{by_cases, refuted, or_cases, or_left, or_right}
+use Rattle.lists.proofs.Integers.{difference_above, difference_below}
 use Rattle.hypermap.specs.Hypermap.{Dimension, is_dart, is_hypermap, same_component, all_orbits, characteristic, genus}
 use Rattle.hypermap.specs.Change.{change, keeps_genus}
-use Rattle.hypermap.proofs.Basics.Bools.{by_cases, refuted, or_cases, or_left, or_right}
-use Rattle.hypermap.proofs.Basics.Integers.{difference_above, difference_below}
 use Rattle.hypermap.proofs.Hypermaps.Agreeing.{agree}
 use Rattle.hypermap.proofs.Laws.Changes.{change_hypermap}
 use Rattle.hypermap.proofs.Laws.GenusTheorem.{euler_equation, orbits_least, orbits_most, genus_theorem}

@@ -1,5 +1,5 @@
 -- The way back to a checkpoint: from where it was set every call keeps it as long as the checkpoint stands, and at its
--- end going back meets no refusal and leaves the table of the start. Assumes nothing.
+-- end going back meets no refusal and leaves the table of the start.
 use mathlib.Core.Path.{◌≡◌, ap, sym, ◌∙◌}
 use mathlib.Core.Bool.{true}
 use mathlib.Core.List.{List, [], ◌∷◌}
@@ -9,8 +9,8 @@ use native.Mathlib.Omega.{arith}
 use lib.Dec.{ltb, eqb}
 use lib.ListN.{length}
 use borrow.Author.Tests.{eqb-true, eq-eqb, ne_eqb, ltb-true}
-use Rattle.hypermap.specs.Lists.{all}
-use Rattle.hypermap.proofs.Basics.Bools.{by_cases, and_left, and_right}
+use Rattle.lists.specs.Lists.{all}
+use Rattle.lists.proofs.Bools.{by_cases, and_left, and_right}
 use Rattle.table.specs.Limits.{words_per_dart, unset, checkpoint_count}
 use Rattle.table.specs.Refusals.{undo_unfit, no_mark, or_else, unless}
 use Rattle.table.specs.Layout.{Table}
@@ -29,10 +29,9 @@ use Rattle.journal.proofs.Checkpoints.{back_passed, kept_low, low_kept}
 use Rattle.journal.proofs.ComingBack.{Returnable, returnable_now, journaled_returnable, run_returnable}
 use Rattle.journal.proofs.ComingBack.{went_back_returnable, comes_back}
 use Rattle.journal_calls.specs.Calls.{State, recorded_in, with_recorded, state_refusal, perform_refusal}
-use Rattle.journal_calls.specs.Calls.{journal_play_refusal}
-use Rattle.journal_calls.specs.Calls.{play_reply, checkpoint_refusal, back_call_refusal, undoing_to, went_back}
-use Rattle.journal_calls.specs.Calls.{back_reply}
-use Rattle.journal_calls.specs.Calls.{Call, performs, plays, sets_checkpoint, goes_back, reply}
+use Rattle.journal_calls.specs.Calls.{journal_play_refusal, play_reply, checkpoint_refusal, back_call_refusal}
+use Rattle.journal_calls.specs.Calls.{undoing_to, went_back, back_reply, Call, performs, plays, sets_checkpoint}
+use Rattle.journal_calls.specs.Calls.{goes_back, reply}
 use Rattle.promises.specs.Journals.{state_after, ComesBack, Stands, Untouched, ComesBackIf}
 use Rattle.promises.proofs.Changes.{changed}
 use Rattle.promises.proofs.JournalRefusals.{returned}

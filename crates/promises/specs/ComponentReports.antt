@@ -1,7 +1,7 @@
--- What the report of one component promises. Document 02, Job 4. Assumes nothing.
+-- What the report of one component promises. Document 02, Job 4.
 use Rattle.std.specs.Prelude.{◌≡◌, true, cond, ℕ, ◌+◌, ◌*◌, leb}
-use Rattle.hypermap.specs.Lists.{sum_of, sum_of_integers}
-use Rattle.hypermap.specs.Laws.{representatives}
+use Rattle.lists.specs.Lists.{sum_of, sum_of_integers}
+use Rattle.hypermap.specs.ComponentLaws.{representatives}
 use Rattle.table.specs.Layout.{Table, hypermap_of}
 use Rattle.parts.specs.Sharing.{is_same}
 use Rattle.parts.specs.declared.Part.TheVariants.{Component}

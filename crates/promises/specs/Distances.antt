@@ -1,9 +1,9 @@
 -- What the questions same edge and same vertex promise of their count. Document 02, Job 6: "The same-tie and same-cell
 -- questions now answer the fewest follower steps from the first tab to the second, 0 for a tab and itself, or apart.
--- Joins, cuts and rings rest on it and accept the same calls." Assumes nothing.
+-- Joins, cuts and rings rest on it and accept the same calls."
 use Rattle.std.specs.Prelude.{◌≡◌, ◌↔◌, true, false, List, ℕ, ◌<◌, ltb}
+use Rattle.lists.specs.Lists.{all}
 use Rattle.hypermap.specs.Hypermap.{Dimension, edge, vertex, Hypermap}
-use Rattle.hypermap.specs.Ring.{all_links}
 use Rattle.hypermap.specs.Laws.{iterate, Reaches, SameOrbitLaw}
 use Rattle.table.specs.Layout.{Table, capacity, hypermap_of}
 use Rattle.table.specs.Commands.{joins, cuts}
@@ -44,6 +44,6 @@ pub record DistancePromise : Type 0 where
       (call_refusal w (cuts k a b) ≡ 0) ↔ (((asked w k a b).number ≡ 0) × (0 < (asked w k a b).count))
   pub rings :
       (w : Table) (ring : List ℕ) → ring_call_refusal w ring ≡ 0 →
-      all_links (λ l. ltb 0 (asked w edge l.first l.second).count) (links_of ring) ≡ true
+      all (λ l. ltb 0 (asked w edge l.first l.second).count) (links_of ring) ≡ true
   -- "and accept the same calls": to be in the same orbit is to be listed in it, as before
   pub accept : SameOrbitLaw

@@ -1,9 +1,9 @@
--- The customer's first demand, about the public calls, in the customer's words. Assumes nothing.
+-- The customer's first demand, about the public calls, in the customer's words.
 use Rattle.std.specs.Prelude.{◌≡◌, ◌↔◌, true, List, [], ◌∷◌, ◌++◌, ℕ}
-use Rattle.hypermap.specs.Lists.{among}
+use Rattle.lists.specs.Lists.{among}
 use Rattle.table.specs.Refusals.{wrong_size, bent_table, off_the_table, no_tab, tab_taken, tab_held, together, apart}
-use Rattle.table.specs.Refusals.{same_tab}
-use Rattle.table.specs.Refusals.{no_list, tie_twice, gap_twice, path_broken, short_room, unknown_command, torn_command}
+use Rattle.table.specs.Refusals.{same_tab, no_list, tie_twice, gap_twice, path_broken, short_room, unknown_command}
+use Rattle.table.specs.Refusals.{torn_command}
 use Rattle.table.specs.Layout.{Table}
 use Rattle.table.specs.Commands.{Command, puts, takes_out, joins, cuts}
 use Rattle.table.specs.Runs.{stopped, IsRun}
@@ -12,9 +12,9 @@ use Rattle.parts.specs.declared.Part.{Part}
 use Rattle.parts.specs.declared.Part.TheVariants.{Edge}
 use Rattle.tape.specs.Steps.{step_rule}
 use Rattle.tape.specs.Tapes.{contents_of}
-use Rattle.kernel.specs.Calls.{call_refusal, call_leaves, report_of, refused_totals}
-use Rattle.kernel.specs.Calls.{ring_call_refusal, ring_call_leaves, component_report_of, refused_answer, same_answer}
-use Rattle.kernel.specs.Calls.{round_answer, round_leaves, marks_answer, marks_leaves, look_of}
+use Rattle.kernel.specs.Calls.{call_refusal, call_leaves, report_of, refused_totals, ring_call_refusal}
+use Rattle.kernel.specs.Calls.{ring_call_leaves, component_report_of, refused_answer, same_answer, round_answer}
+use Rattle.kernel.specs.Calls.{round_leaves, marks_answer, marks_leaves, look_of}
 use Rattle.kernel.specs.Tapes.{play_refusal, play_outcome, tape_answer, tape_leaves, screen_refusal, screen_leaves}
 use Rattle.kernel.specs.declared.Answer.{Answer}
 use Rattle.kernel.specs.declared.Totals.{Totals}

@@ -1,4 +1,4 @@
--- What the calls that bring a journal promise. Document 02, Job 5. Assumes nothing.
+-- What the calls that bring a journal promise. Document 02, Job 5.
 use Rattle.std.specs.Prelude.{◌≡◌, List, [], ◌∷◌, ◌++◌, ℕ, ◌-◌, ◌≤◌, length}
 use Rattle.table.specs.Limits.{checkpoint_count}
 use Rattle.table.specs.Refusals.{undo_unfit, journal_full, no_mark}

@@ -1,3 +1,5 @@
+-- The customer's three demands and what documents 01 and 02 promise, about the public calls. Promises has all in one
+-- record.
 pub mod FirstDemand
 pub mod SecondDemand
 pub mod ThirdDemand

@@ -1,4 +1,4 @@
--- What an accepted report promises of its lifts. Document 02, Job 2. Assumes nothing.
+-- What an accepted report promises of its lifts. Document 02, Job 2.
 use Rattle.std.specs.Prelude.{◌≡◌, ◌+◌, length}
 use Rattle.table.specs.Layout.{Table, hypermap_of}
 use Rattle.parts.specs.Counts.{alone_darts}

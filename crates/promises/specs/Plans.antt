@@ -1,6 +1,6 @@
--- Document 01's plans to check: one table of rows, and what it is for a row to hold of the public calls. Assumes
--- nothing: these are definitions.
+-- Document 01's plans to check: one table of rows, and what it is for a row to hold of the public calls.
 use Rattle.std.specs.Prelude.{◌≡◌, Bool, true, false, ◌&&◌, List, [], ◌∷◌, ℕ, eqb}
+use Rattle.lists.specs.Lists.{all}
 use Rattle.hypermap.specs.Hypermap.{edge, vertex}
 use Rattle.hypermap.specs.Change.{marking}
 use Rattle.table.specs.Layout.{Table, hypermap_of}
@@ -81,10 +81,6 @@ tried_fits w r =
 unfoldable pub row_fits : Table → (set_up : List TapeCommand) → Row → Bool
 row_fits w [] r = tried_fits w r
 row_fits w (c ∷ cs) r = eqb (refusal_by w c) 0 && row_fits (left_by w c) cs r
-
-unfoldable pub all_fit : List Row → Bool
-all_fit [] = true
-all_fit (r ∷ rs) = row_fits (empty_table r.capacity) r.set_up r && all_fit rs
 
 -- THE TABLE
 abbrev pub row : (capacity : ℕ) → (set_up : List TapeCommand) → (tried : TapeCommand) → (refusal : ℕ) → Plan → Row
@@ -185,4 +181,4 @@ rows =
 
 -- what holds of the public calls: every row
 abbrev pub PlansPromise : Type 0
-PlansPromise = all_fit rows ≡ true
+PlansPromise = all (λ r. row_fits (empty_table r.capacity) r.set_up r) rows ≡ true

@@ -1,6 +1,6 @@
 -- All that the customer is promised, in one record: the three demands, document 01's plans to check, and document 02's
 -- jobs. Each field is a type of its own file, with the customer's sentence beside each part; proofs/Promises is the one
--- term that proves them all. A later job adds a field. Assumes nothing.
+-- term that proves them all. A later job adds a field.
 use Rattle.promises.specs.FirstDemand.{FirstDemand}
 use Rattle.promises.specs.SecondDemand.{SecondDemand}
 use Rattle.promises.specs.ThirdDemand.{ThirdDemand}

@@ -1,4 +1,4 @@
--- What a round promises of its length. Document 02, Job 3: "no round passes 4,096 tabs". Assumes nothing.
+-- What a round promises of its length. Document 02, Job 3: "no round passes 4,096 tabs".
 use Rattle.std.specs.Prelude.{◌≡◌, List, [], ◌∷◌, ℕ, ◌≤◌, length}
 use Rattle.table.specs.Layout.{Table, capacity}
 use Rattle.table.specs.declared.Orbit.{Orbit}

@@ -1,4 +1,4 @@
--- The customer's second demand, about the public calls, in the customer's words. Assumes nothing.
+-- The customer's second demand, about the public calls, in the customer's words.
 use Rattle.std.specs.Prelude.{◌≡◌, ◌↔◌, true, false, List, ◌∷◌, ◌++◌, ℕ, ◌-◌, ◌≤◌, length, get_or, replicate, drop}
 use Rattle.hypermap.specs.Hypermap.{Dimension, edge, vertex, Hypermap, is_dart, is_hypermap, of, step, face_next}
 use Rattle.hypermap.specs.Hypermap.{same_orbit, component_at}

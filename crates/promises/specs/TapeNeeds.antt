@@ -1,4 +1,4 @@
--- What the call for a tape's needs promises. Document 02, Job 1. Assumes nothing.
+-- What the call for a tape's needs promises. Document 02, Job 1.
 use Rattle.std.specs.Prelude.{◌≡◌, ◌↔◌, List, [], ◌∷◌, ℕ, ◌≤◌, ◌<◌, length}
 use Rattle.table.specs.Refusals.{wrong_size, unknown_command, torn_command}
 use Rattle.table.specs.Layout.{Table, capacity}

@@ -1,4 +1,4 @@
--- The customer's third demand, about the public calls, in the customer's words. Assumes nothing.
+-- The customer's third demand, about the public calls, in the customer's words.
 use Rattle.std.specs.Prelude.{◌≡◌, ◌⊎◌, ◌↔◌, true, false, List, ◌∷◌, ℕ, suc, ◌*◌, pos, negsuc, ◌-ℤ◌, ◌≤ℤ◌}
 use Rattle.hypermap.specs.Hypermap.{Dimension}
 use Rattle.hypermap.specs.Change.{marking}

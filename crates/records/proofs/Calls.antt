@@ -1,5 +1,4 @@
 -- What the form as records needs of `ring_cut`, plain and journaled: a list that is too long is answered as no list is.
--- Assumes nothing.
 use mathlib.Core.Path.{◌≡◌, refl, sym, ap, ◌∙◌}
 use mathlib.Core.Bool.{false, and-false}
 use native.Mathlib.Omega.{arith}
@@ -17,8 +16,8 @@ use Rattle.tape.specs.Steps.{cuts_ring}
 use Rattle.soundness.specs.Soundness.{table_refusal}
 use Rattle.journal.specs.Journaling.{journaled_refusal, journaled_on}
 use Rattle.kernel.specs.Calls.{ring_call_refusal, ring_call_leaves}
-use Rattle.journal_calls.specs.Calls.{State, state_refusal, perform_refusal, perform_reply, reply_by}
-use Rattle.journal_calls.specs.Calls.{recorded_in, with_recorded}
+use Rattle.journal_calls.specs.Calls.{State, state_refusal, perform_refusal, perform_reply, reply_by, recorded_in}
+use Rattle.journal_calls.specs.Calls.{with_recorded}
 
 long_is_none : (ws : List ℕ) → max_ring < length ws → is_list ws ≡ false
 unfolding is_list

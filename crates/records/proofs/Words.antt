@@ -1,5 +1,4 @@
--- The pairs of the first double-links: how they grow by one, and what is cut along the words of those that fit. Assumes
--- nothing.
+-- The pairs of the first double-links: how they grow by one, and what is cut along the words of those that fit.
 use mathlib.Core.Path.{◌≡◌, refl, sym, ap}
 use mathlib.Core.Bool.{Bool, true, false, cond}
 use mathlib.Core.List.{List, [], ◌∷◌, ◌++◌, map}

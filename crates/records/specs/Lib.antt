@@ -1,1 +1,2 @@
+-- A ring lent as records, and its words.
 pub mod Records

@@ -1,4 +1,4 @@
--- A ring of records as a list of words. Assumes nothing: these are definitions.
+-- A ring of records as a list of words.
 use Rattle.std.specs.Prelude.{cond, List, [], ◌∷◌, ℕ, ltb}
 use Rattle.table.specs.Limits.{max_double_links}
 use Rattle.records.specs.declared.DoubleLink.{DoubleLink}

@@ -1,4 +1,4 @@
--- The conditions that accept a list are those of 2.6 and 2.7, and that the darts of each pair differ. Assumes nothing.
+-- The conditions that accept a list are those of 2.6 and 2.7, and that the darts of each pair differ.
 use mathlib.Core.Path.{◌≡◌, refl, ap, sym, ◌∙◌}
 use mathlib.Core.Bool.{true, ◌&&◌}
 use mathlib.Core.List.{List, [], ◌∷◌}
@@ -7,14 +7,12 @@ use native.Mathlib.Omega.{arith}
 use lib.Dec.{ltb, leb, eqb}
 use lib.ListN.{length}
 use borrow.Author.Tests.{eqb-true, ltb-true}
-use Rattle.hypermap.specs.Lists.{all}
+use Rattle.lists.specs.Lists.{all}
+use Rattle.lists.proofs.Bools.{clash, and_left, and_right, and_true}
 use Rattle.hypermap.specs.Hypermap.{Hypermap, is_dart, same_edge}
-use Rattle.hypermap.specs.Ring.{DoubleLink, is_double_link, all_links, unicity, continuity, closure, simplicity}
-use Rattle.hypermap.specs.Ring.{is_ring}
+use Rattle.hypermap.specs.Ring.{DoubleLink, is_double_link, unicity, continuity, closure, simplicity, is_ring}
 use Rattle.hypermap.specs.Ring.{pairs_differ}
-use Rattle.hypermap.proofs.Basics.Bools.{clash, and_left, and_right, and_true}
-use Rattle.table.specs.Refusals.{no_list, apart, same_tab, tie_twice, gap_twice, path_broken}
-use Rattle.table.specs.Refusals.{or_else, unless}
+use Rattle.table.specs.Refusals.{no_list, apart, same_tab, tie_twice, gap_twice, path_broken, or_else, unless}
 use Rattle.table.specs.Layout.{Table, is_present, hypermap_of}
 use Rattle.table.specs.Inner.{WithinCapacity}
 use Rattle.table.specs.Commands.{presence_refusal}
@@ -47,8 +45,8 @@ module _ (w : Table) where
 
   links_darts :
       (ws : List ℕ) → all (is_present w) ws ≡ true → pairs_together m (links_of ws) ≡ true →
-      all_links (is_double_link m) (links_of ws) ≡ true
-  unfolding links_of all all_links pairs_together
+      all (is_double_link m) (links_of ws) ≡ true
+  unfolding links_of all pairs_together
   links_darts [] p t = refl
   links_darts (a ∷ []) p t = refl
   links_darts (a ∷ b ∷ ws) p t =
@@ -61,9 +59,9 @@ module _ (w : Table) where
       (and_right (same_edge m a b) _ t))
 
   darts_links :
-      (ws : List ℕ) → length ws % 2 ≡ 0 → all_links (is_double_link m) (links_of ws) ≡ true →
+      (ws : List ℕ) → length ws % 2 ≡ 0 → all (is_double_link m) (links_of ws) ≡ true →
       (all (is_present w) ws ≡ true) × (pairs_together m (links_of ws) ≡ true)
-  unfolding links_of all all_links pairs_together
+  unfolding links_of all pairs_together
   darts_links [] e t = (refl, refl)
   darts_links (a ∷ []) e t = absurd (omega arith)
   darts_links (a ∷ b ∷ ws) e t =
@@ -83,7 +81,7 @@ pub record Fitting (m : Hypermap) (ls : List DoubleLink) : Type 0 where
   pub path : path_closes m ls ≡ true
 
 ring_from :
-    (m : Hypermap) (ls : List DoubleLink) → (ls ≡ [] → ⊥) → all_links (is_double_link m) ls ≡ true → Fitting m ls →
+    (m : Hypermap) (ls : List DoubleLink) → (ls ≡ [] → ⊥) → all (is_double_link m) ls ≡ true → Fitting m ls →
     is_ring_of m ls ≡ true
 unfolding is_ring_of path_closes
 ring_from m [] n d f = absurd (n refl)
@@ -93,12 +91,12 @@ ring_from m (l ∷ ls) n d f =
     and_true (is_ring m l ls) (pairs_differ (l ∷ ls)) (rw (d, f.edges, c, e) f.faces) f.differ
 
 pub ring_to :
-    (m : Hypermap) (ls : List DoubleLink) → is_ring_of m ls ≡ true → (all_links (is_double_link m) ls ≡ true) ×
+    (m : Hypermap) (ls : List DoubleLink) → is_ring_of m ls ≡ true → (all (is_double_link m) ls ≡ true) ×
     Fitting m ls
 unfolding is_ring_of path_closes
 ring_to m [] t = absurd (clash t refl)
 ring_to m (l ∷ ls) t =
-    let a = all_links (is_double_link m) (l ∷ ls) in
+    let a = all (is_double_link m) (l ∷ ls) in
     let u = unicity m (l ∷ ls) in
     let c = continuity m l ls in
     let e = closure m l ls in

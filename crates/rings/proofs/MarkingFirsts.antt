@@ -1,6 +1,6 @@
 -- A pass over the first darts of a list marks the orbit of each that has no mark yet, with its number. So each first
 -- dart has a mark in the end, and two darts have the same one just where they lie in one orbit; a first dart to come
--- has none just where it lies apart from all earlier ones. Assumes nothing.
+-- has none just where it lies apart from all earlier ones.
 use mathlib.Core.Path.{◌≡◌, refl, sym, ap, ◌∙◌}
 use mathlib.Core.Bool.{Bool, true, false, ◌&&◌, not, and-true, and-false, and_assoc}
 use mathlib.Core.List.{List, [], ◌∷◌}
@@ -10,39 +10,32 @@ use lib.Dec.{eqb}
 use lib.ListN.{length, replicate, length-replicate}
 use borrow.Author.Tests.{eqb-true, eq-eqb, ne_eqb}
 use Rattle.std.proofs.lemmas.List.{drop_more, drop_all}
+use Rattle.lists.proofs.Bools.{four_and, by_cases, bool_ext, clash, refuted}
+use Rattle.lists.specs.Lists.{all, Each}
+use Rattle.lists.proofs.Lists.{Mem, zero_at}
 use Rattle.hypermap.specs.Hypermap.{Kind, orbit_of, same_orbit}
-use Rattle.hypermap.specs.Ring.{DoubleLink, all_links, no_two}
+use Rattle.hypermap.specs.Ring.{DoubleLink, no_two}
 use Rattle.hypermap.specs.Laws.{Equivalence}
-use Rattle.hypermap.proofs.Basics.Bools.{by_cases, bool_ext, clash, refuted}
-use Rattle.hypermap.proofs.Basics.Lists.{Mem}
 use Rattle.table.specs.Layout.{Table, capacity, is_present, holds_hypermap, hypermap_of}
 use Rattle.table.proofs.Holding.{low, high, mem_present}
 use Rattle.table.proofs.Walking.{same_orbits}
-use Rattle.table.proofs.Zeros.{zero_at}
-use Rattle.parts.specs.Inner.{mark_at, HasMark, PartMarked}
+use Rattle.parts.specs.Marking.{mark_at, HasMark, PartMarked}
 use Rattle.parts.proofs.Walking.{OrbitMarked, orbit_marked}
-use Rattle.rings.specs.Inner.{Each, Present, firsts_apart, FirstsTell, FirstsMarked}
+use Rattle.rings.specs.Inner.{Present, firsts_apart, FirstsTell, FirstsMarked}
 
--- TESTS OF ALL
-four_and : (a b c d : Bool) → ((a && b) && (c && d)) ≡ ((a && c) && (b && d))
-four_and true true c d = refl
-four_and true false true d = refl
-four_and true false false d = refl
-four_and false b c d = refl
-
-all_true : (p : DoubleLink → Bool) → ((l : DoubleLink) → p l ≡ true) → (ls : List DoubleLink) → all_links p ls ≡ true
-unfolding all_links
+all_true : (p : DoubleLink → Bool) → ((l : DoubleLink) → p l ≡ true) → (ls : List DoubleLink) → all p ls ≡ true
+unfolding all
 all_true p h [] = refl
 all_true p h (l ∷ ls) = rw (h l) (all_true p h ls)
 
 -- two tests of all make one
 all_both :
     (w : Table) (p q r : DoubleLink → Bool) → ((l : DoubleLink) → Present w l → (p l && q l) ≡ r l) →
-    (ls : List DoubleLink) → Each (Present w) ls → (all_links p ls && all_links q ls) ≡ all_links r ls
-unfolding all_links
+    (ls : List DoubleLink) → Each (Present w) ls → (all p ls && all q ls) ≡ all r ls
+unfolding all
 all_both w p q r h [] e = refl
 all_both w p q r h (l ∷ ls) e =
-    four_and (p l) (all_links p ls) (q l) (all_links q ls) ∙ cc (h l e.0, all_both w p q r h ls e.1)
+    four_and (p l) (all p ls) (q l) (all q ls) ∙ cc (h l e.0, all_both w p q r h ls e.1)
 
 -- ONE FIRST DART
 abbrev no_mark : (marks : List ℕ) → DoubleLink → Bool
@@ -57,7 +50,7 @@ HasOwn m l = mark_at m l.first ≡ l.first
 
 -- what is still to be asked of the rest of the list
 abbrev to_ask : Table → Kind → (marks : List ℕ) → List DoubleLink → Bool
-to_ask w c m ls = all_links (no_mark m) ls && firsts_apart w c ls
+to_ask w c m ls = all (no_mark m) ls && firsts_apart w c ls
 
 -- THE MARKS: each is a dart of the orbit that it stands in
 record Owner (w : Table) (c : Kind) (x y : ℕ) : Type 0 where
@@ -123,11 +116,11 @@ module _ (w : Table) (c : Kind) (s : holds_hypermap w ≡ true) where
     to_ask_now :
         (z : ℕ) (ls : List DoubleLink) → Each (Present w) ls →
         to_ask w c m (record { first = x; second = z } ∷ ls) ≡ to_ask w c v ls
-    unfolding all_links no_two
+    unfolding all no_two
     to_ask_now z ls e =
         let n : DoubleLink → Bool = λ l. not (same x l.first) in
         rw (eq-eqb (mark_at m x) 0 f)
-        (sym (and_assoc (all_links (no_mark m) ls) (all_links n ls) (firsts_apart w c ls)) ∙
+        (sym (and_assoc (all (no_mark m) ls) (all n ls) (firsts_apart w c ls)) ∙
         ap (λ b. b && firsts_apart w c ls) (all_both w (no_mark m) n (no_mark v) no_mark_now ls e))
 
   -- where each first dart has a mark, the marks tell
@@ -192,7 +185,7 @@ module _ (w : Table) (c : Kind) (ls : List DoubleLink) where
 
     -- it has a mark, and so lies in the orbit of an earlier one
     pub firsts_shared : (mark_at m l.first ≡ 0 → ⊥) → Firsts w c ls rs m false
-    unfolding all_links
+    unfolding all
     firsts_shared d = record {
       size = i.size;
       present = i.present.1;
@@ -229,7 +222,7 @@ module _ (w : Table) (c : Kind) (ls : List DoubleLink) where
   module _
       (m : List ℕ) (b : Bool) (i : Firsts w c ls [] m b) (s : holds_hypermap w ≡ true) (t : Each (Present w) ls) where
     pub firsts_answer : b ≡ firsts_apart w c ls
-    unfolding all_links no_two
+    unfolding all no_two
     firsts_answer = sym (i.answer ∙ and-true b)
 
     pub firsts_tell : FirstsTell w c ls m

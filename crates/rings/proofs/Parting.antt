@@ -1,14 +1,15 @@
 -- Theorem 2.9 for the tables that an accepted ring leaves: they hold the break of the hypermap, and a parting is the
--- same for hypermaps that agree. Assumes nothing.
+-- same for hypermaps that agree.
 use mathlib.Core.Path.{◌≡◌, refl, ap, ◌∙◌}
 use mathlib.Core.Bool.{true, ◌&&◌}
 use mathlib.Core.List.{List, [], ◌∷◌}
 use Prim.Native.Nat.{ℕ}
 use lib.Dec.{eqb}
+use Rattle.lists.specs.Lists.{all}
+use Rattle.lists.proofs.Bools.{and_left, and_right, and_true}
 use Rattle.hypermap.specs.Hypermap.{Hypermap, is_dart, is_hypermap, same_edge, is_planar}
-use Rattle.hypermap.specs.Ring.{DoubleLink, is_double_link, all_links, is_ring, pairs_differ, break_along}
+use Rattle.hypermap.specs.Ring.{DoubleLink, is_double_link, is_ring, pairs_differ, break_along}
 use Rattle.hypermap.specs.RingLaws.{IsParted}
-use Rattle.hypermap.proofs.Basics.Bools.{and_left, and_right, and_true}
 use Rattle.hypermap.proofs.Hypermaps.RingTests.{ring_darts}
 use Rattle.hypermap.proofs.Hypermaps.Alike.{Agrees, answers_agree, parted_agrees}
 use Rattle.hypermap.proofs.Laws.Breaks.{stands_after}
@@ -20,14 +21,14 @@ use Rattle.rings.specs.Laws.{is_ring_of, IsCut, are_darts, PartingLaw, PlanarPar
 use Rattle.rings.proofs.Cuts.{cut_law}
 use Rattle.rings.proofs.Conditions.{ring_to, conditions_law}
 
-double_darts : (m : Hypermap) (ls : List DoubleLink) → all_links (is_double_link m) ls ≡ true → are_darts m ls ≡ true
-unfolding all_links
+double_darts : (m : Hypermap) (ls : List DoubleLink) → all (is_double_link m) ls ≡ true → are_darts m ls ≡ true
+unfolding all
 double_darts m [] t = refl
 double_darts m (l ∷ ls) t =
     and_true (is_dart m l.first && is_dart m l.second) (are_darts m ls)
     (and_left (is_dart m l.first && is_dart m l.second) (same_edge m l.first l.second)
-    (and_left (is_double_link m l) (all_links (is_double_link m) ls) t))
-    (double_darts m ls (and_right (is_double_link m l) (all_links (is_double_link m) ls) t))
+    (and_left (is_double_link m l) (all (is_double_link m) ls) t))
+    (double_darts m ls (and_right (is_double_link m l) (all (is_double_link m) ls) t))
 
 links_are_darts : (m : Hypermap) (ls : List DoubleLink) → is_ring_of m ls ≡ true → are_darts m ls ≡ true
 links_are_darts m ls r = double_darts m ls (ring_to m ls r).0

@@ -1,14 +1,14 @@
 -- An accepted ring is its edge cuts, each accepted in turn: after its first cut the rest of a ring is a ring, so each
--- double-link still lies in one edge when it is cut. Assumes nothing.
+-- double-link still lies in one edge when it is cut.
 use mathlib.Core.Path.{◌≡◌, refl, ap, sym, ◌∙◌, subst}
 use mathlib.Core.Bool.{true, ◌&&◌}
 use mathlib.Core.List.{List, [], ◌∷◌}
-use Rattle.hypermap.specs.Lists.{among}
+use Rattle.lists.specs.Lists.{among, all}
+use Rattle.lists.proofs.Bools.{clash, and_left, and_right, and_true}
+use Rattle.lists.proofs.Lists.{Mem}
 use Rattle.hypermap.specs.Hypermap.{edge, Hypermap, is_hypermap, of, same_edge}
 use Rattle.hypermap.specs.Change.{change}
-use Rattle.hypermap.specs.Ring.{DoubleLink, is_ring, all_links, pairs_differ, break_along}
-use Rattle.hypermap.proofs.Basics.Bools.{clash, and_left, and_right, and_true}
-use Rattle.hypermap.proofs.Basics.Lists.{Mem}
+use Rattle.hypermap.specs.Ring.{DoubleLink, is_ring, pairs_differ, break_along}
 use Rattle.hypermap.proofs.Permutations.Rings.{Ring, rest_ring}
 use Rattle.hypermap.proofs.Hypermaps.Totals.{backs}
 use Rattle.hypermap.proofs.Hypermaps.TotalCounts.{same_orbit_is, falling, falling_permutations, backs_changed}
@@ -69,7 +69,7 @@ cuts_pass :
     (ls : List DoubleLink) (m : Hypermap) (w : Table) → is_hypermap m ≡ true → Agrees m (hypermap_of w) →
     holds_hypermap w ≡ true → InTurn m ls →
     AllAccepted command_rule w (cuts_of ls) × (after_all command_rule w (cuts_of ls) ≡ cut_along ls w)
-unfolding cuts_of cut_along is_together break_along all_links
+unfolding cuts_of cut_along is_together break_along all
 cuts_pass [] m w wf g s t = (tt, refl)
 cuts_pass (l ∷ ls) m w wf g s t =
     let a = l.first in

@@ -1,12 +1,11 @@
--- What the inner functions are lent, and what a pass over the first darts leaves in the marks. Assumes nothing: these
--- are definitions.
-use Rattle.std.specs.Prelude.{◌≡◌, Bool, true, List, [], ◌∷◌, ℕ, ◌≤◌, eqb, length, get_or, map}
-use Rattle.hypermap.specs.Lists.{all}
+-- What the inner functions are lent, and what a pass over the first darts leaves in the marks.
+use Rattle.std.specs.Prelude.{◌≡◌, Bool, true, List, ℕ, ◌≤◌, eqb, length, get_or, map}
+use Rattle.lists.specs.Lists.{Each, all}
 use Rattle.hypermap.specs.Hypermap.{edge, Kind, of, face, same_orbit}
 use Rattle.hypermap.specs.Ring.{DoubleLink, no_two}
 use Rattle.table.specs.Limits.{max_capacity}
 use Rattle.table.specs.Layout.{Table, capacity, is_present, holds_hypermap, hypermap_of}
-use Rattle.parts.specs.Inner.{mark_at}
+use Rattle.parts.specs.Marking.{mark_at}
 
 -- the double-link that a pair of words is, and the list of them
 abbrev pub link_of : (pair : List ℕ) → DoubleLink
@@ -20,10 +19,6 @@ pub record Listed (w : Table) (ws : List ℕ) : Type 0 where
   pub hypermap : holds_hypermap w ≡ true
   pub room : capacity w ≤ max_capacity
   pub darts : all (is_present w) ws ≡ true
-
-abbrev pub Each : (DoubleLink → Type 0) → List DoubleLink → Type 0
-Each P [] = Unit {0}
-Each P (l ∷ ls) = P l × Each P ls
 
 -- both are darts of the table
 pub record Present (w : Table) (l : DoubleLink) : Type 0 where

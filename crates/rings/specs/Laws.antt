@@ -1,7 +1,8 @@
--- What holds of rings in tables: each law is a type, and its proof a term of that type in proofs/. Assumes nothing.
+-- What holds of rings in tables: each law is a type, and its proof a term of that type in proofs/.
 use Rattle.std.specs.Prelude.{◌≡◌, ◌↔◌, Bool, true, false, ◌&&◌, List, [], ◌∷◌, ℕ, length}
+use Rattle.lists.specs.Lists.{all}
 use Rattle.hypermap.specs.Hypermap.{Hypermap, is_dart, is_planar, component_at}
-use Rattle.hypermap.specs.Ring.{DoubleLink, all_links, is_ring, pairs_differ, break_along}
+use Rattle.hypermap.specs.Ring.{DoubleLink, is_ring, pairs_differ, break_along}
 use Rattle.hypermap.specs.RingLaws.{IsParted}
 use Rattle.table.specs.Layout.{Table, holds_hypermap, hypermap_of}
 use Rattle.table.specs.Runs.{command_rule, after_all, AllAccepted}
@@ -26,7 +27,7 @@ pub record IsCut (w : Table) (ls : List DoubleLink) : Type 0 where
   pub holds : Holds (cut_along ls w) (break_along ls (hypermap_of w))
 
 abbrev pub are_darts : Hypermap → List DoubleLink → Bool
-are_darts m ls = all_links (λ l. is_dart m l.first && is_dart m l.second) ls
+are_darts m ls = all (λ l. is_dart m l.first && is_dart m l.second) ls
 
 abbrev pub CutLaw : Type 0
 CutLaw =

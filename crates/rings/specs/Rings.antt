@@ -1,8 +1,9 @@
 -- A ring lent as a list of words, the two darts of each double-link in turn: its refusals in order, and the table that
--- it leaves. Document 01, "Ring" and "Refusals": 1 and 2 are the caller's. Assumes nothing: these are definitions.
+-- it leaves. Document 01, "Ring" and "Refusals": 1 and 2 are the caller's.
 use Rattle.std.specs.Prelude.{Bool, true, ◌&&◌, List, [], ◌∷◌, ℕ, ◌%◌, leb, ltb, eqb, length}
+use Rattle.lists.specs.Lists.{all}
 use Rattle.hypermap.specs.Hypermap.{edge, Hypermap, same_edge}
-use Rattle.hypermap.specs.Ring.{DoubleLink, all_links, unicity, continuity, closure, simplicity, pairs_differ}
+use Rattle.hypermap.specs.Ring.{DoubleLink, unicity, continuity, closure, simplicity, pairs_differ}
 use Rattle.table.specs.Limits.{max_ring}
 use Rattle.table.specs.Refusals.{no_list, apart, same_tab, tie_twice, gap_twice, path_broken, or_else, unless}
 use Rattle.table.specs.Layout.{Table, hypermap_of}
@@ -20,7 +21,7 @@ is_list ws = ltb 0 (length ws) && eqb (length ws % 2) 0 && leb (length ws) max_r
 
 -- 8: the two darts of each double-link lie in one edge, 2.6 (1)
 unfoldable pub pairs_together : Hypermap → List DoubleLink → Bool
-pairs_together m ls = all_links (λ l. same_edge m l.first l.second) ls
+pairs_together m ls = all (λ l. same_edge m l.first l.second) ls
 
 -- 13: the path goes on and closes, 2.7 (1) and (2)
 unfoldable pub path_closes : Hypermap → List DoubleLink → Bool

@@ -37,7 +37,7 @@ pub fn judge_words(table: &[u16], ring: &[u16]) -> Result<(), Refusal>
 }
 
 // Whether the two darts of each double-link differ.
-#[tactic(auto, using(crate::proofs::Asking::asking_links))]
+#[tactic(auto, using(crate::proofs::Asking::asking))]
 pub fn pairs_differ(links: &[[u16; 2]]) -> bool
     ensures { result ≡ pairs_differ (links_in links.now) }
 {

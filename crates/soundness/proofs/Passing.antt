@@ -1,4 +1,4 @@
--- What a table has passed that is not refused, and that what has passed is not refused. Assumes nothing.
+-- What a table has passed that is not refused, and that what has passed is not refused.
 use mathlib.Core.Path.{◌≡◌}
 use mathlib.Core.Bool.{true}
 use mathlib.Core.List.{List}
@@ -7,7 +7,7 @@ use native.Mathlib.Omega.{arith}
 use lib.Dec.{eqb, leb}
 use lib.ListN.{length}
 use borrow.Author.Tests.{eqb-true, leb-true}
-use Rattle.hypermap.proofs.Basics.Bools.{and_left, and_right}
+use Rattle.lists.proofs.Bools.{and_left, and_right}
 use Rattle.table.specs.Limits.{words_per_dart, max_capacity, max_tape}
 use Rattle.table.specs.Refusals.{wrong_size, bent_table, or_else, unless}
 use Rattle.table.specs.Layout.{Table, capacity, holds_hypermap}

@@ -1,1 +1,2 @@
+-- Which tables and tapes a public call accepts, and the refusals 1 and 2 of others.
 pub mod Soundness

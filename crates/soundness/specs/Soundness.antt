@@ -1,5 +1,4 @@
--- What a caller's table and tape must pass before all else. Document 01, "Table" and refusals 1 and 2. Assumes
--- nothing: these are definitions.
+-- What a caller's table and tape must pass before all else. Document 01, "Table" and refusals 1 and 2.
 use Rattle.std.specs.Prelude.{Bool, ◌&&◌, List, ℕ, ◌*◌, ◌%◌, leb, eqb, length}
 use Rattle.table.specs.Limits.{words_per_dart, max_capacity, max_tape}
 use Rattle.table.specs.Refusals.{wrong_size, bent_table, or_else, unless}

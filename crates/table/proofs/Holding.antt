@@ -1,17 +1,16 @@
--- What a table that holds a hypermap says of its darts. A number is present, and then its successor and its
--- predecessor in each dimension are present and undo each other, or it has four zero words. Assumes nothing.
+-- What a table that holds a hypermap says of its darts. A number is present, and then its successor and its predecessor
+-- in each dimension are present and undo each other, or it has four zero words.
 use Rattle.std.proofs.Common.{◌≡◌, ℕ, ◌<◌, ◌≤◌, true, false, ◌&&◌, ◌⊎◌, length, inl, inr, ⊎_elim, arith, ltb-true}
 use Rattle.std.proofs.Common.{lt-ltb, eq-eqb, eqb-true, le-leb, leb-true}
-use Rattle.hypermap.specs.Lists.{among}
+use Rattle.lists.specs.Lists.{among}
+use Rattle.lists.proofs.Bools.{by_cases, clash, bool_ext, or_cases, or_left, or_right, and_left, and_right, and_true}
+use Rattle.lists.proofs.Lists.{all_mem, mem_all, keep_mem, mem_kept, keep_shorter, rising_keep}
 use Rattle.hypermap.specs.Hypermap.{Dimension, edge, vertex, Hypermap, is_hypermap}
-use Rattle.hypermap.proofs.Basics.Bools.{by_cases, clash, bool_ext, or_cases, or_left, or_right, and_left, and_right}
-use Rattle.hypermap.proofs.Basics.Bools.{and_true}
-use Rattle.hypermap.proofs.Basics.Lists.{all_mem, mem_all, keep_mem, mem_kept, keep_shorter, rising_keep}
 use Rattle.hypermap.proofs.Hypermaps.Totals.{hypermap_of as hypermap_from}
 use Rattle.hypermap.proofs.Hypermaps.Totals as Totals
 use Rattle.hypermap.proofs.Hypermaps.Alike.{Agrees}
-use Rattle.table.specs.Layout.{Table, capacity, numbers, word_at, next_word, back_word, is_present}
-use Rattle.table.specs.Layout.{hypermap_of, is_absent, words_linked, dart_fits, holds_hypermap}
+use Rattle.table.specs.Layout.{Table, capacity, numbers, word_at, next_word, back_word, is_present, hypermap_of}
+use Rattle.table.specs.Layout.{is_absent, words_linked, dart_fits, holds_hypermap}
 use Rattle.table.specs.Laws.{HypermapLaw, Holds}
 use Rattle.table.proofs.Numbers.{mem_numbers, numbers_mem, numbers_rising, numbers_length}
 

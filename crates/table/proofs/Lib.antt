@@ -1,5 +1,6 @@
+-- What holds of tables: reading and writing words, the test for a hypermap, walks, judging and making changes, and the
+-- laws of specs/Laws.
 pub mod Numbers
-pub mod Ranges
 pub mod Reading
 pub mod Holding
 pub mod HalfTest

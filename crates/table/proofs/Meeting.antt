@@ -1,11 +1,11 @@
 -- A walk forward from one dart and a walk back from another, a step each in turn: their first meeting tells how far the
--- second dart is from the first, and if one comes home before, the darts are in different orbits. Assumes nothing.
-use Rattle.std.proofs.Common.{◌≡◌, ℕ, suc, ◌+◌, ◌<◌, ◌≤◌, true, ltb, ◌↔◌, sym, refl, ap, ◌∙◌, add-one, arith}
-use Rattle.std.proofs.Common.{ltb-false, ltb-true, Some, None}
+-- second dart is from the first, and if one comes home before, the darts are in different orbits.
+use Rattle.std.proofs.Common.{◌≡◌, ℕ, suc, ◌+◌, ◌<◌, ◌≤◌, true, ltb, ◌↔◌, sym, refl, ap, ◌∙◌, add-one, arith, ltb-false}
+use Rattle.std.proofs.Common.{ltb-true, Some, None}
+use Rattle.lists.proofs.Bools.{by_cases}
+use Rattle.lists.proofs.Lists.{Mem}
 use Rattle.hypermap.specs.Hypermap.{is_hypermap, Kind, step, step_back}
 use Rattle.hypermap.specs.Laws.{iterate}
-use Rattle.hypermap.proofs.Basics.Bools.{by_cases}
-use Rattle.hypermap.proofs.Basics.Lists.{Mem}
 use Rattle.hypermap.proofs.Permutations.Reaching.{ride, iterate_last}
 use Rattle.hypermap.proofs.Hypermaps.Totals.{step_links}
 use Rattle.hypermap.proofs.Laws.Distances.{meeting_law, first_meeting, home_forth, home_back}

@@ -1,18 +1,17 @@
 -- The opposite of an accepted command is accepted and restores every word: the change of four words undoes itself, and
--- put and take out write the words of one dart. Assumes nothing.
+-- put and take out write the words of one dart.
 use Rattle.std.proofs.Common.{◌≡◌, ℕ, suc, ◌*◌, ◌/◌, ◌%◌, ◌<◌, ◌≤◌, true, not, eqb, length, get_or, sym, refl, ap, ◌∙◌}
 use Rattle.std.proofs.Common.{arith, ext_get_or, eqb-true}
 use borrow.Author.Tests.{eqb-false}
-use Rattle.hypermap.specs.Lists.{among}
+use Rattle.lists.specs.Lists.{among}
+use Rattle.lists.proofs.Bools.{by_cases, clash, refuted}
+use Rattle.lists.proofs.Lists.{Mem}
 use Rattle.hypermap.specs.Hypermap.{Dimension, Hypermap, is_hypermap, of}
 use Rattle.hypermap.specs.Change.{swap_in, change}
-use Rattle.hypermap.proofs.Basics.Bools.{by_cases, clash, refuted}
-use Rattle.hypermap.proofs.Basics.Lists.{Mem}
 use Rattle.hypermap.proofs.Permutations.Splicing.{swap_in_twice, swap_in_inside}
 use Rattle.hypermap.proofs.Hypermaps.Alike.{answers_agree}
-use Rattle.hypermap.proofs.Laws.Orbits.{orbit_law}
+use Rattle.hypermap.proofs.Laws.Orbits.{orbit_law, equal_orbits}
 use Rattle.hypermap.proofs.Laws.Changes.{change_hypermap}
-use Rattle.hypermap.proofs.Laws.Orbits.{equal_orbits}
 use Rattle.hypermap.proofs.Laws.JoinsOrCuts.{join_or_cut_law}
 use Rattle.table.specs.Limits.{words_per_dart, hypermap_words}
 use Rattle.table.specs.Layout.{Table, capacity, place, word_at, next_word, back_word, is_present, holds_hypermap}

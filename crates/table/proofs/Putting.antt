@@ -1,9 +1,9 @@
 -- A put adds a dart, and a take-out removes one: the words of one number are written, and every other dart keeps its
--- own. Assumes nothing.
+-- own.
 use Rattle.std.proofs.Common.{◌≡◌, ℕ, ◌≤◌, false, eqb, sym, ap, ◌∙◌, arith, eqb-true}
 use borrow.Author.Tests.{eqb-false}
+use Rattle.lists.proofs.Bools.{by_cases, clash, refuted}
 use Rattle.hypermap.specs.Hypermap.{Dimension, is_dart}
-use Rattle.hypermap.proofs.Basics.Bools.{by_cases, clash, refuted}
 use Rattle.table.specs.Layout.{Table, capacity, word_at, next_word, back_word, is_present, hypermap_of}
 use Rattle.table.specs.Commands.{with_all}
 use Rattle.table.specs.Laws.{PutLaw, TakeOutLaw}

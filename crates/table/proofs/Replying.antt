@@ -1,12 +1,12 @@
--- How a reply follows from the stages of code: one that stops with a refusal, and one that goes on. Assumes nothing.
+-- How a reply follows from the stages of code: one that stops with a refusal, and one that goes on.
 use Rattle.std.proofs.Common.{◌≡◌, ℕ, Bool, true, false, Result, Ok, Err, sym, ◌∙◌, refl, arith}
 use Rattle.std.specs.Result.{IsErrAnd, result_and}
 use Rattle.std.proofs.lemmas.Result.{err_from_is_err_and}
+use borrow.Author.Tests.{ne_eqb}
 use Rattle.table.specs.Refusals.{or_else, unless}
 use Rattle.table.specs.Replies.{number, reply}
 use Rattle.table.specs.declared.refusals.Refusal.{Refusal}
 use Rattle.table.proofs.Stages.{refused_first, refused_second}
-use borrow.Author.Tests.{ne_eqb}
 
 -- no refusal has the number 0
 pub number_positive : (r : Refusal) → number r ≡ 0 → ⊥

@@ -1,9 +1,9 @@
 -- A run is a fold of its commands, and how a loop makes it: k commands are accepted, and the outcome of the whole is
--- that of the rest with k more. Assumes nothing.
+-- that of the rest with k more.
 use Rattle.std.proofs.Common.{◌≡◌, ℕ, suc, ◌+◌, eqb, List, [], ◌∷◌, ◌++◌, length, refl, ap, arith, eq-eqb, ne_eqb}
 use Rattle.std.proofs.Common.{eqb-true}
 use borrow.Author.Tests.{eqb-false}
-use Rattle.hypermap.proofs.Basics.Bools.{by_cases}
+use Rattle.lists.proofs.Bools.{by_cases}
 use Rattle.table.specs.Runs.{Rule, Outcome, stopped, one_more, run_by, after_all, AllAccepted, IsRun, RunLaw}
 
 module _ {S C : Type 0} (r : Rule S C) where

@@ -1,12 +1,12 @@
 -- Refusals in order: what a refusal of 0 says of each stage, and how the stages of code put together give a
--- definition's. Assumes nothing.
+-- definition's.
 use Rattle.std.specs.Bool.{⊤}
-use Rattle.std.proofs.Common.{◌≡◌, ℕ, ◌<◌, Bool, true, false, ◌&&◌, eqb, List, [], ◌∷◌, sym, refl, ap, ◌∙◌}
-use Rattle.std.proofs.Common.{arith, eq-eqb, ne_eqb, eqb-true}
+use Rattle.std.proofs.Common.{◌≡◌, ℕ, ◌<◌, Bool, true, false, ◌&&◌, eqb, List, [], ◌∷◌, sym, refl, ap, ◌∙◌, arith}
+use Rattle.std.proofs.Common.{eq-eqb, ne_eqb, eqb-true}
 use borrow.Author.Tests.{eqb-false}
-use Rattle.hypermap.specs.Lists.{all}
-use Rattle.hypermap.proofs.Basics.Bools.{by_cases, and_left}
-use Rattle.hypermap.proofs.Basics.Lists.{Mem, mem_head, mem_tail, all_mem, mem_all}
+use Rattle.lists.specs.Lists.{all}
+use Rattle.lists.proofs.Bools.{by_cases, and_left}
+use Rattle.lists.proofs.Lists.{Mem, mem_head, mem_tail, all_mem, mem_all}
 use Rattle.table.specs.Refusals.{or_else, unless, off_the_table, no_tab}
 use Rattle.table.specs.Layout.{Table, is_number, is_present}
 use Rattle.table.specs.Commands.{presence_refusal, leaves}

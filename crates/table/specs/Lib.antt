@@ -1,3 +1,5 @@
+-- What the contracts of table speak of: the limits, the refusals, how words lie in a table, and each change. Laws are
+-- what is proved of them; Inner is of inner functions.
 pub mod Limits
 pub mod Refusals
 pub mod Layout

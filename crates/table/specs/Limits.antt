@@ -1,5 +1,5 @@
 -- The limits of tables, rings, tapes and journals, and the places of a dart's words. Each is named here and nowhere
--- else; src/limits.rt has the same names for the code. Assumes nothing: these are definitions.
+-- else; src/limits.rt has the same names for the code.
 use Rattle.std.specs.Prelude.{ℕ, ◌/◌}
 
 -- TABLES. The words of each dart

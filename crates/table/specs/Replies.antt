@@ -1,5 +1,5 @@
 -- The code's refusals, and what stands for them in the definitions: the published number of each, and 0 where a call is
--- accepted. Assumes nothing: these are definitions.
+-- accepted.
 use Rattle.std.specs.Prelude.{ℕ, Result, Ok, Err}
 use Rattle.table.specs.Refusals.{wrong_size, bent_table, off_the_table, no_tab, tab_taken, tab_held, together, apart}
 use Rattle.table.specs.Refusals.{same_tab, no_list, tie_twice, gap_twice, path_broken, short_room, unknown_command}

@@ -1,6 +1,6 @@
 -- Commands in a row, up to the first that is refused. One definition for every state that calls keep, as a table or a
 -- table with its journal, and for everything that they go through, as the commands of a tape or the entries of a
--- journal. Document 01, "Tape". Assumes nothing: these are definitions.
+-- journal. Document 01, "Tape".
 use Rattle.std.specs.Prelude.{◌≡◌, ℕ, suc, ◌≤◌, cond, List, [], ◌∷◌, length, take, drop, ◌==◌, ◌≢◌}
 use Rattle.table.specs.Layout.{Table}
 use Rattle.table.specs.Commands.{Command, command_refusal, command_on, leaves}

@@ -1,5 +1,4 @@
 -- The contents of a tape need no fuel: every command has a byte, so a tape has at least as many bytes as commands.
--- Assumes nothing.
 use mathlib.Core.Path.{◌≡◌, refl, ap}
 use mathlib.Core.List.{List, [], ◌∷◌}
 use Prim.Native.Nat.{ℕ, zero, suc, ◌≤◌, ◌<◌}
@@ -9,8 +8,8 @@ use lib.ListN.{length, length-drop}
 use borrow.Author.Tests.{eq-eqb, ne_eqb, leb-true}
 use Rattle.table.specs.Refusals.{unless, unknown_command, torn_command}
 use Rattle.table.proofs.Stages.{passed, fitting}
-use Rattle.tape.specs.Tapes.{is_command, command_size, byte_of, size_of, command_of, read_refusal, rest_of}
-use Rattle.tape.specs.Tapes.{ended_by, after, contents_by, contents_of}
+use Rattle.tape.specs.Tapes.{is_command, command_size, byte_of, size_of, command_of, read_refusal, rest_of, ended_by}
+use Rattle.tape.specs.Tapes.{after, contents_by, contents_of}
 use Rattle.tape.specs.Laws.{ReadingLaw}
 
 -- THE FIRST COMMAND has a byte, and its bytes lie on the tape

@@ -1,4 +1,4 @@
--- What the decoder reads: command bytes and their sizes, and numbers one after the other. Assumes nothing.
+-- What the decoder reads: command bytes and their sizes, and numbers one after the other.
 use mathlib.Core.Path.{◌≡◌, refl, ap, sym, ◌∙◌}
 use mathlib.Core.Bool.{true, false}
 use mathlib.Core.List.{List, [], ◌∷◌, ◌++◌, append-nil}
@@ -13,11 +13,11 @@ use borrow.Author.Tests.{leb-true, ltb-true, lt-ltb, le-leb, lt-leb, ne_eqb}
 use Rattle.std.proofs.Common.{Result, Ok, Err}
 use Rattle.std.specs.Result.{IsErrAnd}
 use Rattle.std.proofs.lemmas.Result.{err_from_is_err_and}
-use Rattle.hypermap.proofs.Basics.Bools.{by_cases, and_left, and_right}
+use Rattle.lists.proofs.Bools.{by_cases, and_left, and_right}
 use Rattle.table.specs.Refusals.{or_else, unless}
-use Rattle.tape.specs.Tapes.{operand_sizes, is_command, command_size, byte_of, size_of, read_refusal}
+use Rattle.tape.specs.Tapes.{operand_sizes, is_command, command_size, byte_of, size_of, read_refusal, command_of}
+use Rattle.tape.specs.Tapes.{number_at, numbers_from}
 use Rattle.table.specs.declared.refusals.Refusal.{Refusal}
-use Rattle.tape.specs.Tapes.{command_of, number_at, numbers_from}
 use Rattle.tape.specs.Opcodes.{byte_for}
 use Rattle.tape.specs.Inner.{meaning, HasOperands, Reads}
 use Rattle.tape.specs.declared.Instruction.{Instruction}

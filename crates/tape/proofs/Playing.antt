@@ -1,5 +1,4 @@
 -- A tape played a command at a time, for any rule: the run so far, and how each command carries it on or ends it.
--- Assumes nothing.
 use Rattle.std.specs.Bool.{⊤}
 use mathlib.Core.Path.{◌≡◌, refl, sym, ap, ◌∙◌}
 use mathlib.Core.List.{List}
@@ -10,11 +9,11 @@ use mathlib.Core.Bool.{Bool, true, false}
 use borrow.Author.Tests.{eq-eqb, ne_eqb, eqb-true, eqb-false}
 use lib.Dec.{eqb}
 use borrow.Author.Rules.{part_to_end}
-use Rattle.hypermap.proofs.Basics.Bools.{by_cases}
-use Rattle.table.specs.Refusals.{or_else}
 use Rattle.std.specs.Prelude.{Result, Ok, Err, MatchResult, IfOk, IsErrAnd, is_ok}
 use Rattle.std.proofs.lemmas.Bool.{false≢true}
 use Rattle.std.proofs.lemmas.Result.{err_from_is_err_and}
+use Rattle.lists.proofs.Bools.{by_cases}
+use Rattle.table.specs.Refusals.{or_else}
 use Rattle.table.specs.declared.refusals.Refusal.{Refusal}
 use Rattle.table.specs.Replies.{number, reply}
 use Rattle.table.proofs.Replying.{number_positive}

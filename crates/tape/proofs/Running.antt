@@ -1,4 +1,4 @@
--- After every accepted command of a tape the table holds a hypermap. Assumes nothing.
+-- After every accepted command of a tape the table holds a hypermap.
 use mathlib.Core.Path.{◌≡◌, refl, ◌∙◌}
 use mathlib.Core.Bool.{true}
 use mathlib.Core.List.{List}
@@ -7,7 +7,7 @@ use native.Mathlib.Omega.{arith}
 use lib.Dec.{eqb}
 use lib.ListN.{length, replicate, length-replicate}
 use borrow.Author.Tests.{eqb-true}
-use Rattle.hypermap.proofs.Basics.Bools.{by_cases}
+use Rattle.lists.proofs.Bools.{by_cases}
 use Rattle.table.specs.Limits.{words_per_dart, max_capacity}
 use Rattle.table.specs.Layout.{Table, holds_hypermap}
 use Rattle.table.specs.Commands.{Command, command_leaves, leaves}
@@ -17,8 +17,7 @@ use Rattle.table.proofs.Commands.{keeps_hypermap_law}
 use Rattle.table.proofs.Runs.{run_keeps}
 use Rattle.rings.specs.Rings.{ring_leaves}
 use Rattle.rings.proofs.Parting.{accepted_cut}
-use Rattle.tape.specs.Steps.{TapeCommand, changes, reports, cuts_ring, step_refusal, step_on, step_rule}
-use Rattle.tape.specs.Steps.{step_leaves}
+use Rattle.tape.specs.Steps.{TapeCommand, changes, reports, cuts_ring, step_refusal, step_on, step_rule, step_leaves}
 use Rattle.tape.specs.Tapes.{contents_of}
 use Rattle.tape.specs.Laws.{RunKeepsHypermapLaw}
 

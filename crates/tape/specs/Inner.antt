@@ -1,4 +1,4 @@
--- What the inner functions are lent and answer. Assumes nothing: these are definitions.
+-- What the inner functions are lent and answer.
 use Rattle.std.specs.Prelude.{◌≡◌, List, ℕ, ◌+◌, ◌*◌, ◌≤◌, ◌<◌, length, Result, MatchResult}
 use Rattle.table.specs.Limits.{max_tape}
 use Rattle.table.specs.Layout.{Table}

@@ -1,4 +1,4 @@
--- What holds of tapes: each law is a type, and its proof a term of that type in proofs/. Assumes nothing.
+-- What holds of tapes: each law is a type, and its proof a term of that type in proofs/.
 use Rattle.std.specs.Prelude.{◌≡◌, true, List, ℕ, ◌<◌, length}
 use Rattle.table.specs.Layout.{Table, holds_hypermap}
 use Rattle.tape.specs.Tapes.{command_of, read_refusal, rest_of, contents_of, ended_by, after}

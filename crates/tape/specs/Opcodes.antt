@@ -1,4 +1,4 @@
--- The code's opcodes, and the bytes that they stand for. Assumes nothing: these are definitions.
+-- The code's opcodes, and the bytes that they stand for.
 use Rattle.std.specs.Prelude.{◌≡◌, ℕ, false, Result, MatchResult}
 use Rattle.table.specs.declared.refusals.Refusal.{Refusal}
 use Rattle.table.specs.declared.refusals.Refusal.TheVariants.{UnknownCommand}

@@ -1,4 +1,4 @@
--- What the code's answers to a run stand for: the reply that C is given. Assumes nothing: these are definitions.
+-- What the code's answers to a run stand for: the reply that C is given.
 use Rattle.std.specs.Prelude.{ℕ, Result, Ok, Err}
 use Rattle.table.specs.Replies.{number}
 use Rattle.tape.specs.declared.Run.{Run}

@@ -1,5 +1,4 @@
--- A run of a tape: its commands in a row, up to the first that is refused. Document 01, "Tape". Assumes nothing: these
--- are definitions.
+-- A run of a tape: its commands in a row, up to the first that is refused. Document 01, "Tape".
 use Rattle.std.specs.Prelude.{List, ℕ}
 use Rattle.table.specs.Layout.{Table}
 use Rattle.table.specs.Refusals.{or_else}

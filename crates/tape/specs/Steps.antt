@@ -1,5 +1,5 @@
 -- What a tape's commands do to a table that holds a hypermap, one at a time. Document 01, "Commands" and "Refusals": 1
--- and 2 are the caller's. Assumes nothing: these are definitions.
+-- and 2 are the caller's.
 use Rattle.std.specs.Prelude.{List, ℕ}
 use Rattle.table.specs.Layout.{Table}
 use Rattle.table.specs.Commands.{Command, command_refusal, command_on}

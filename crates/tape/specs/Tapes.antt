@@ -1,5 +1,5 @@
 -- How commands stand on a tape: one byte, then operands of two bytes, low byte first. Document 01, "Commands" and
--- "Tape". Assumes nothing: these are definitions.
+-- "Tape".
 use Rattle.std.specs.Prelude.{Bool, ◌&&◌, cond, List, [], ◌∷◌, ◌++◌, ℕ, zero, suc, ◌+◌, ◌*◌, ◌/◌, ◌%◌, leb, ltb, eqb}
 use Rattle.std.specs.Prelude.{length, get_or, drop}
 use Rattle.hypermap.specs.Hypermap.{Dimension, edge, vertex}

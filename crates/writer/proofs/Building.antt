@@ -1,5 +1,5 @@
 -- A canonical tape, played on an empty table of the same size, builds the table: the puts give its darts, each alone,
--- and the joins of each dimension its orbits. So unequal tables have unequal tapes. Assumes nothing.
+-- and the joins of each dimension its orbits. So unequal tables have unequal tapes.
 use mathlib.Core.Path.{◌≡◌, refl, sym, ap, ◌∙◌}
 use mathlib.Core.Bool.{true}
 use mathlib.Core.List.{◌++◌, map, map-append}
@@ -8,8 +8,7 @@ use native.Mathlib.Omega.{arith}
 use lib.ListN.{length, length-map, replicate}
 use Rattle.hypermap.specs.Hypermap.{Dimension, edge, vertex, is_dart}
 use Rattle.table.specs.Limits.{words_per_dart}
-use Rattle.table.specs.Layout.{Table, capacity, word_at, next_word, back_word, is_present, holds_hypermap}
-use Rattle.table.specs.Layout.{hypermap_of}
+use Rattle.table.specs.Layout.{Table, capacity, word_at, next_word, back_word, is_present, holds_hypermap, hypermap_of}
 use Rattle.table.specs.Laws.{Holds}
 use Rattle.table.specs.Runs.{after_all, AllAccepted}
 use Rattle.table.proofs.Holding.{low, high, mem_present, links, table_hypermap}

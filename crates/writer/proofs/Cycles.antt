@@ -1,5 +1,5 @@
 -- A cycle as a product of swaps: the first number of an orbit is swapped with each of the others, in their order, and
--- that moves each number of the orbit to the next one and leaves the rest where they are. Assumes nothing.
+-- that moves each number of the orbit to the next one and leaves the rest where they are.
 use mathlib.Core.Path.{◌≡◌, refl, sym, ◌∙◌}
 use mathlib.Core.Bool.{true, false}
 use mathlib.Core.List.{List, [], ◌∷◌}
@@ -8,12 +8,12 @@ use native.Mathlib.Omega.{arith}
 use lib.Dec.{eqb}
 use lib.ListN.{length}
 use borrow.Author.Tests.{eqb-true, eq-eqb}
-use Rattle.hypermap.specs.Lists.{among, distinct}
+use Rattle.lists.specs.Lists.{among, distinct}
+use Rattle.lists.proofs.Bools.{by_cases, clash}
+use Rattle.lists.proofs.Lists.{Mem, mem_nil, mem_cases, not_among, distinct_head, distinct_tail}
 use Rattle.hypermap.specs.Hypermap.{walk_from, walk}
 use Rattle.hypermap.specs.Laws.{iterate, IsOrbit}
 use Rattle.hypermap.specs.Change.{swap}
-use Rattle.hypermap.proofs.Basics.Bools.{by_cases, clash}
-use Rattle.hypermap.proofs.Basics.Lists.{Mem, mem_nil, mem_cases, not_among, distinct_head, distinct_tail}
 use Rattle.hypermap.proofs.Permutations.Splicing.{swap_first, swap_second, swap_else}
 
 -- h swapped with each of a list

@@ -1,4 +1,4 @@
--- The screen's run: an empty table may be played on, and a run on it leaves one within the capacity. Assumes nothing.
+-- The screen's run: an empty table may be played on, and a run on it leaves one within the capacity.
 use Rattle.std.proofs.Common.{◌≡◌, List, ℕ, ◌*◌, ◌≤◌, length, replicate}
 use Rattle.table.specs.Limits.{words_per_dart, max_capacity, max_tape, screen_room}
 use Rattle.table.specs.Layout.{Table}

@@ -1,15 +1,14 @@
 -- Joins on a table, one after the other: a join with a dart that is alone is accepted, and swaps two successors.
--- Assumes nothing.
 use mathlib.Core.Path.{◌≡◌, refl, ap, sym, ◌∙◌}
 use mathlib.Core.Bool.{true, false}
 use mathlib.Core.List.{List, [], ◌∷◌, map}
 use Prim.Native.Nat.{ℕ}
 use lib.ListN.{length}
-use Rattle.hypermap.specs.Lists.{among, distinct}
+use Rattle.lists.specs.Lists.{among, distinct}
+use Rattle.lists.proofs.Bools.{clash, refuted}
+use Rattle.lists.proofs.Lists.{Mem, mem_head, mem_tail, not_among, distinct_head, distinct_tail}
 use Rattle.hypermap.specs.Hypermap.{Dimension, of}
 use Rattle.hypermap.specs.Change.{swap}
-use Rattle.hypermap.proofs.Basics.Bools.{clash, refuted}
-use Rattle.hypermap.proofs.Basics.Lists.{Mem, mem_head, mem_tail, not_among, distinct_head, distinct_tail}
 use Rattle.hypermap.proofs.Permutations.Reaching.{ride}
 use Rattle.hypermap.proofs.Permutations.Splicing.{swap_first, swap_second, swap_else, swap_cases}
 use Rattle.hypermap.proofs.Laws.Orbits.{orbit_law}

@@ -1,4 +1,4 @@
--- Bytes laid over a buffer, one part after another. Assumes nothing.
+-- Bytes laid over a buffer, one part after another.
 use mathlib.Core.Path.{◌≡◌, refl, sym, ap, ◌∙◌}
 use mathlib.Core.List.{List, [], ◌∷◌, ◌++◌, append-nil, append_assoc}
 use Prim.Native.Nat.{ℕ, ◌+◌, ◌-◌, ◌≤◌}

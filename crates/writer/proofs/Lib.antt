@@ -1,3 +1,5 @@
+-- Writing a canonical tape in two passes, the screen, and the proof that a canonical tape builds its table and no
+-- other.
 pub mod Laying
 pub mod Passing
 pub mod OrbitJoins

@@ -1,5 +1,5 @@
 -- Joins written on a walk round an orbit. The walk stands before the dart y, and the joins of y and of the darts after
--- it are left. The dart behind y is a word of the table, so what is left depends on y alone. Assumes nothing.
+-- it are left. The dart behind y is a word of the table, so what is left depends on y alone.
 use mathlib.Core.Path.{◌≡◌, ap}
 use mathlib.Core.List.{List, ◌++◌, map}
 use Prim.Native.Nat.{ℕ, ◌<◌}

@@ -1,23 +1,22 @@
--- Commands written in one pass over the numbers: at each that passes a test, the bytes that belong to it. Assumes
--- nothing.
+-- Commands written in one pass over the numbers: at each that passes a test, the bytes that belong to it.
 use mathlib.Core.Path.{◌≡◌, refl, sym, ap, ◌∙◌}
 use mathlib.Core.Bool.{Bool, true, false, ◌&&◌, cond}
 use mathlib.Core.List.{List, [], ◌∷◌, ◌++◌, map}
-use Prim.Native.Nat.{ℕ, suc, ◌+◌, ◌-◌, ◌≤◌, ◌<◌}
-use native.Mathlib.Numerals.{add-one}
+use Prim.Native.Nat.{ℕ, ◌+◌, ◌-◌, ◌≤◌, ◌<◌}
 use native.Mathlib.Omega.{arith}
 use lib.Dec.{eqb}
 use borrow.Author.Tests.{ne_eqb}
-use Rattle.hypermap.specs.Lists.{keep}
+use Rattle.lists.specs.Lists.{keep, up_from}
+use Rattle.lists.proofs.Bools.{by_cases, refuted, and_left}
+use Rattle.lists.proofs.Keeping.{keep_both, left, left_first, left_next, left_none}
+use Rattle.lists.proofs.Ranges.{map_up_from}
 use Rattle.hypermap.specs.Hypermap.{Dimension, Hypermap, of, orbit_of, is_least_in}
-use Rattle.hypermap.proofs.Basics.Bools.{by_cases, refuted, and_left}
-use Rattle.table.specs.Layout.{Table, capacity, up_from, is_present, hypermap_of}
+use Rattle.table.specs.Layout.{Table, capacity, is_present, hypermap_of}
 use Rattle.table.specs.Commands.{puts}
 use Rattle.table.proofs.Holding.{first_word, present_from}
 use Rattle.parts.specs.Marks.{mark_of, marks_of, orbit_marks}
-use Rattle.parts.specs.Inner.{mark_at}
-use Rattle.parts.proofs.Counting.{keep_both}
-use Rattle.parts.proofs.LeastMarks.{map_up_from, marks_length}
+use Rattle.parts.specs.Marking.{mark_at}
+use Rattle.parts.proofs.LeastMarks.{marks_length}
 use Rattle.tape.specs.Tapes.{bytes_of, tape_bytes}
 use Rattle.writer.specs.Canonical.{orbit_joins, joins_over, puts_of, joins_of}
 use Rattle.writer.specs.Inner.{HasRoom, Lays}
@@ -29,9 +28,9 @@ unfoldable pub bytes_over : (f : ℕ → List ℕ) → List ℕ → List ℕ
 bytes_over f [] = []
 bytes_over f (x ∷ xs) = f x ++ bytes_over f xs
 
--- what is left of the numbers from 1 to n at x
+-- of the numbers that are left of those from 1 to n at x
 abbrev bytes_after : (n : ℕ) → (p : ℕ → Bool) → (f : ℕ → List ℕ) → (x : ℕ) → List ℕ
-bytes_after n p f x = bytes_over f (keep p (up_from x (n + 1 - x)))
+bytes_after n p f x = bytes_over f (left n p x)
 
 -- THE PASS stands at x
 pub record Passing
@@ -43,16 +42,13 @@ pub record Passing
 module _ (n : ℕ) (p : ℕ → Bool) (f : ℕ → List ℕ) (from : ℕ) (o : List ℕ) where
   pub passing_none : HasRoom from (bytes_over f (keep p (up_from 1 n))) o → Passing n p f from o o from 1
   passing_none h =
-      let e : n + 1 - 1 ≡ n = omega arith in
-      record { low = omega arith; high = omega arith; laying = rw e (laying_none h) }
+      record { low = omega arith; high = omega arith; laying = rw (left_first n p) (laying_none h) }
 
   module _ (q : List ℕ) (at x : ℕ) (g : Passing n p f from o q at x) where
     next :
         x ≤ n → bytes_after n p f x ≡ cond (p x) (f x ++ bytes_after n p f (x + 1)) (bytes_after n p f (x + 1))
-    unfolding bytes_over keep up_from
-    next h =
-        let e : n + 1 - x ≡ suc (n + 1 - (x + 1)) = omega arith in
-        rw (e, add-one x) (by_cases (p x) (λ t. rw t) (λ t. rw t))
+    unfolding bytes_over
+    next h = rw (left_next n p x h) (by_cases (p x) (λ t. rw t) (λ t. rw t))
 
     here :
         x ≤ n → p x ≡ true →
@@ -71,10 +67,8 @@ module _ (n : ℕ) (p : ℕ → Bool) (f : ℕ → List ℕ) (from : ℕ) (o : L
     passing_no h t = record { low = omega arith; high = omega arith; laying = rw (next h, t) at g.laying }
 
     pub passing_all : n < x → Lays from (bytes_over f (keep p (up_from 1 n))) o q at
-    unfolding bytes_over keep up_from
-    passing_all h =
-        let e : n + 1 - x ≡ 0 = omega arith in
-        laying_all (rw e at g.laying)
+    unfolding bytes_over
+    passing_all h = laying_all (rw (left_none n p x h) at g.laying)
 
 -- COMMANDS of a whole table
 puts_bytes : (xs : List ℕ) → tape_bytes (map puts xs) ≡ bytes_over (λ x. bytes_of (puts x)) xs

@@ -1,5 +1,5 @@
 -- The puts of a canonical tape, on a table of zeros: each is accepted, and they leave a table with the darts of the
--- tape's table, each alone. Assumes nothing.
+-- tape's table, each alone.
 use mathlib.Core.Path.{◌≡◌, refl, sym, ◌∙◌}
 use mathlib.Core.Bool.{true, false, ◌||◌}
 use mathlib.Core.List.{List, [], ◌∷◌, map}
@@ -8,11 +8,11 @@ use native.Mathlib.Omega.{arith}
 use lib.Dec.{eqb}
 use lib.ListN.{length, replicate, length-replicate}
 use borrow.Author.Tests.{eqb-true, eqb-false}
-use Rattle.hypermap.specs.Lists.{among, distinct}
+use Rattle.lists.specs.Lists.{among, distinct}
+use Rattle.lists.proofs.Bools.{by_cases, clash, refuted, or_false, or_right}
+use Rattle.lists.proofs.Lists.{Mem, mem_head, mem_tail, distinct_head, distinct_tail, keep_ext, rising_keep}
+use Rattle.lists.proofs.Lists.{rising_distinct}
 use Rattle.hypermap.specs.Hypermap.{Dimension}
-use Rattle.hypermap.proofs.Basics.Bools.{by_cases, clash, refuted, or_false, or_right}
-use Rattle.hypermap.proofs.Basics.Lists.{Mem, mem_head, mem_tail, distinct_head, distinct_tail, keep_ext, rising_keep}
-use Rattle.hypermap.proofs.Basics.Lists.{rising_distinct}
 use Rattle.table.specs.Layout.{Table, capacity, numbers, word_at, next_word, is_present, holds_hypermap, hypermap_of}
 use Rattle.table.specs.Commands.{with_all, puts, command_refusal}
 use Rattle.table.specs.Runs.{after_all, AllAccepted}

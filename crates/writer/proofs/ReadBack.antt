@@ -1,5 +1,4 @@
 -- A written tape is read back: each command's bytes are read as that command, and what follows them is read next.
--- Assumes nothing.
 use mathlib.Core.Path.{◌≡◌, refl, ap, ◌∙◌}
 use mathlib.Core.Bool.{true}
 use mathlib.Core.List.{List, [], ◌∷◌, ◌++◌, map}
@@ -13,8 +12,7 @@ use Rattle.table.specs.Refusals.{or_else, unless}
 use Rattle.table.specs.Commands.{Command, puts, takes_out, joins, cuts}
 use Rattle.tape.specs.Steps.{changes}
 use Rattle.tape.specs.Tapes.{operand_sizes, is_command, command_size, number_at, size_of, command_of, read_refusal}
-use Rattle.tape.specs.Tapes.{rest_of}
-use Rattle.tape.specs.Tapes.{contents_of, after, bytes_of, tape_bytes}
+use Rattle.tape.specs.Tapes.{rest_of, contents_of, after, bytes_of, tape_bytes}
 use Rattle.tape.proofs.Contents.{reading_law}
 
 -- two bytes hold the number that they were written from

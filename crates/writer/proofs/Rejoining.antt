@@ -1,16 +1,16 @@
 -- The joins of a canonical tape rebuild a dimension on a table where each dart is alone in it: those of one orbit make
--- its cycle, and those of the others leave it. Assumes nothing.
+-- its cycle, and those of the others leave it.
 use mathlib.Core.Path.{◌≡◌, refl, ap, sym, ◌∙◌}
 use mathlib.Core.Bool.{Bool, true, false}
 use mathlib.Core.List.{List, [], ◌∷◌, map, map-append}
 use Prim.Native.Nat.{ℕ}
 use lib.ListN.{length, drop}
-use Rattle.hypermap.specs.Lists.{distinct}
+use Rattle.lists.specs.Lists.{distinct}
+use Rattle.lists.proofs.Bools.{clash, refuted}
+use Rattle.lists.proofs.Lists.{Mem, mem_head, mem_tail, mem_nil, mem_cases, not_among, keep_mem, mem_kept}
+use Rattle.lists.proofs.Lists.{distinct_head, distinct_tail, rising_keep, rising_distinct}
 use Rattle.hypermap.specs.Hypermap.{Dimension, of, orbit_of, is_least_in, least_darts}
 use Rattle.hypermap.specs.Laws.{IsOrbit, Equivalence, in_orbit}
-use Rattle.hypermap.proofs.Basics.Bools.{clash, refuted}
-use Rattle.hypermap.proofs.Basics.Lists.{Mem, mem_head, mem_tail, mem_nil, mem_cases, not_among, keep_mem, mem_kept}
-use Rattle.hypermap.proofs.Basics.Lists.{distinct_head, distinct_tail, rising_keep, rising_distinct}
 use Rattle.hypermap.proofs.Permutations.Reaching.{onward}
 use Rattle.hypermap.proofs.Hypermaps.Totals.{up, fit}
 use Rattle.hypermap.proofs.Laws.Orbits.{orbit_law, in_orbit_equivalence}

@@ -1,4 +1,4 @@
--- The screen's answer: numbers of four bytes laid one behind another, and the tape behind them. Assumes nothing.
+-- The screen's answer: numbers of four bytes laid one behind another, and the tape behind them.
 use mathlib.Core.Path.{◌≡◌, refl, ap, sym, ◌∙◌}
 use mathlib.Core.List.{List, [], ◌∷◌, ◌++◌, map, append_assoc, append-nil}
 use Prim.Native.Nat.{ℕ, ◌+◌, ◌*◌, ◌-◌, ◌≤◌}
@@ -24,8 +24,7 @@ use Rattle.parts.specs.declared.Counts.{Counts}
 use Rattle.tape.specs.declared.Run.{Run}
 use Rattle.writer.specs.Canonical.{tape_of}
 use Rattle.writer.specs.Inner.{Lays, written_in, written_of, written_leaves}
-use Rattle.writer.specs.Screens.{screen_bytes, four_bytes, twos_complement, numbers_bytes, ten_numbers}
-use Rattle.writer.specs.Screens.{outcome_of}
+use Rattle.writer.specs.Screens.{screen_bytes, four_bytes, twos_complement, numbers_bytes, ten_numbers, outcome_of}
 use Rattle.writer.proofs.Laying.{lays_whole}
 
 -- NUMBERS in bytes: what a function gives of each, and these one behind another

@@ -1,5 +1,5 @@
 -- The bytes of a canonical tape. An orbit has one dart more than it has joins, and the orbits of a dimension part the
--- darts, so its joins and its orbits are together as many as the darts. Assumes nothing.
+-- darts, so its joins and its orbits are together as many as the darts.
 use mathlib.Core.Path.{◌≡◌, refl, ap, sym, ◌∙◌}
 use mathlib.Core.Bool.{true}
 use mathlib.Core.List.{List, [], ◌∷◌, ◌++◌, map, append_assoc}
@@ -8,14 +8,14 @@ use native.Mathlib.Omega.{arith}
 use lib.Dec.{leb}
 use lib.ListN.{length, drop, length-append}
 use borrow.Author.Tests.{leb-true, leb-false}
-use Rattle.hypermap.specs.Lists.{keep, sum_of}
-use Rattle.hypermap.specs.Hypermap.{Dimension, edge, vertex, Hypermap, is_hypermap, Kind, of, orbit_of}
-use Rattle.hypermap.specs.Hypermap.{is_least_in, least_darts, orbits, edges, vertices}
+use Rattle.lists.specs.Lists.{keep, sum_of}
+use Rattle.lists.proofs.Bools.{by_cases}
+use Rattle.lists.proofs.Lists.{Mem, mem_head, keep_mem, mem_kept, keep_all, keep_shorter, rising_keep, rising_distinct}
+use Rattle.lists.proofs.Lists.{pigeonhole}
+use Rattle.lists.proofs.Sums.{sum_ext, kept_one, sum_of_parts}
+use Rattle.hypermap.specs.Hypermap.{Dimension, edge, vertex, Hypermap, is_hypermap, Kind, of, orbit_of, is_least_in}
+use Rattle.hypermap.specs.Hypermap.{least_darts, orbits, edges, vertices}
 use Rattle.hypermap.specs.Laws.{in_orbit}
-use Rattle.hypermap.proofs.Basics.Bools.{by_cases}
-use Rattle.hypermap.proofs.Basics.Lists.{Mem, mem_head, keep_mem, mem_kept, keep_all, keep_shorter, rising_keep}
-use Rattle.hypermap.proofs.Basics.Lists.{rising_distinct, pigeonhole}
-use Rattle.hypermap.proofs.Basics.Sums.{sum_ext, kept_one, sum_of_parts}
 use Rattle.hypermap.proofs.Hypermaps.Totals.{up}
 use Rattle.hypermap.proofs.Laws.Orbits.{orbit_law, in_orbit_equivalence}
 use Rattle.hypermap.proofs.Laws.Counts.{count_law}

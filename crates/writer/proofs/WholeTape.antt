@@ -1,5 +1,5 @@
 -- A canonical tape laid over a buffer: how many bytes it has by the counts, where its parts have room, and what is left
--- of the buffer. Assumes nothing.
+-- of the buffer.
 use mathlib.Core.Path.{◌≡◌, refl, ap, ◌∙◌}
 use mathlib.Core.List.{List}
 use Prim.Native.Nat.{ℕ, ◌+◌, ◌*◌, ◌≤◌, ◌<◌}
@@ -7,8 +7,7 @@ use native.Mathlib.Omega.{arith}
 use lib.ListN.{length, length-append}
 use borrow.Author.Tests.{le-leb, lt-leb}
 use Rattle.std.specs.Prelude.{Ok, Err}
-use Rattle.hypermap.specs.Hypermap.{edge, vertex, of}
-use Rattle.hypermap.specs.Hypermap.{edges as edges_in, vertices as vertices_in}
+use Rattle.hypermap.specs.Hypermap.{edge, vertex, of, edges as edges_in, vertices as vertices_in}
 use Rattle.table.specs.Limits.{max_capacity}
 use Rattle.table.specs.declared.refusals.Refusal.TheVariants as refusal
 use Rattle.table.specs.Layout.{Table, hypermap_of}

@@ -1,6 +1,6 @@
 -- The canonical tape of a table. Document 01: "The writer puts the tabs in rising order; then for each tie of two or
 -- more tabs, by rising smallest tab m, tie joins (m, t) with t each further tab in following order; then cells
--- likewise." Assumes nothing: these are definitions.
+-- likewise."
 use Rattle.std.specs.Prelude.{List, [], ◌∷◌, ◌++◌, map, ℕ, drop}
 use Rattle.hypermap.specs.Hypermap.{Dimension, edge, vertex, Hypermap, of, orbit_of, least_darts}
 use Rattle.table.specs.Layout.{Table, hypermap_of}

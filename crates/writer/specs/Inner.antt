@@ -1,4 +1,4 @@
--- What the inner functions are lent and answer. Assumes nothing: these are definitions.
+-- What the inner functions are lent and answer.
 use Rattle.std.specs.Prelude.{◌≡◌, cond, List, [], ◌∷◌, ◌++◌, ℕ, ◌+◌, ◌≤◌, leb, length, set, drop, Result, Ok, Err}
 use Rattle.hypermap.specs.Hypermap.{of}
 use Rattle.hypermap.specs.Hypermap as theory

@@ -1,4 +1,4 @@
--- What holds of canonical tapes: each law is a type, and its proof a term of that type in proofs/. Assumes nothing.
+-- What holds of canonical tapes: each law is a type, and its proof a term of that type in proofs/.
 use Rattle.std.specs.Prelude.{◌≡◌, true, ◌+◌, ◌*◌, length, replicate}
 use Rattle.hypermap.specs.Hypermap.{edges, vertices}
 use Rattle.table.specs.Limits.{words_per_dart}

@@ -1,5 +1,4 @@
--- What the planning screen gets: ten numbers of four bytes, and then the rewritten tape. Document 01, "Tape". Assumes
--- nothing: these are definitions.
+-- What the planning screen gets: ten numbers of four bytes, and then the rewritten tape. Document 01, "Tape".
 use Rattle.std.specs.Prelude.{List, [], ◌∷◌, ◌++◌, ℕ, ◌-◌, ◌/◌, ◌%◌, ℤ, pos, negsuc}
 use Rattle.table.specs.Layout.{Table, hypermap_of}
 use Rattle.parts.specs.Counts.{counts_of}

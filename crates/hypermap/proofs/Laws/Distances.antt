@@ -1,5 +1,5 @@
 -- Law 1, the distance. It is a place in the orbit, whose entries are the iterates in order. A walk forward and one back
--- meet where their steps together lead from one dart to the other. Assumes nothing.
+-- meet where their steps together lead from one dart to the other.
 use mathlib.Core.Path.{◌≡◌, refl, ap, sym, ◌∙◌}
 use mathlib.Core.Bool.{true, false}
 use mathlib.Core.List.{List}
@@ -8,12 +8,12 @@ use Prim.Native.Nat.{ℕ, zero, suc, ◌+◌, ◌-◌, ◌≤◌, ◌<◌}
 use native.Mathlib.Omega.{arith}
 use lib.Dec.{eqb, ltb}
 use borrow.Author.Tests.{eqb-true, eqb-false, ltb-true, ltb-false}
-use Rattle.hypermap.specs.Lists.{index_of}
+use Rattle.lists.specs.Lists.{index_of}
+use Rattle.lists.proofs.Bools.{by_cases, refuted}
+use Rattle.lists.proofs.Lists.{Mem}
+use Rattle.lists.proofs.Indices.{index_member, index_within, index_first}
 use Rattle.hypermap.specs.Hypermap.{Hypermap, is_hypermap, Kind, step, step_back, orbit_of, distance, same_orbit}
 use Rattle.hypermap.specs.Laws.{iterate, IsDistance, DistanceLaw, MeetingLaw}
-use Rattle.hypermap.proofs.Basics.Bools.{by_cases, refuted}
-use Rattle.hypermap.proofs.Basics.Lists.{Mem}
-use Rattle.hypermap.proofs.Basics.Indices.{index_member, index_within, index_first}
 use Rattle.hypermap.proofs.Permutations.Reaching.{ride, iterate_last, iterate_add}
 use Rattle.hypermap.proofs.Hypermaps.Totals.{Inverse, step_links}
 use Rattle.hypermap.proofs.Laws.Orbits.{orbit_law, same_orbit_law}

@@ -1,14 +1,14 @@
--- LAW 4, of orbits: a change joins two orbits or cuts one, by the splicing of total steps. Assumes nothing.
+-- LAW 4, of orbits: a change joins two orbits or cuts one, by the splicing of total steps.
 use mathlib.Core.Path.{◌≡◌, subst}
 use mathlib.Core.Bool.{true, false}
 use mathlib.Core.List.{List}
 use mathlib.Core.Logic.{◌↔◌}
 use Prim.Native.Nat.{ℕ}
+use Rattle.lists.proofs.Bools.{by_cases, clash, refuted}
+use Rattle.lists.proofs.Lists.{Mem}
 use Rattle.hypermap.specs.Hypermap.{Dimension, Hypermap, is_hypermap, of, same_orbit}
 use Rattle.hypermap.specs.Change.{change}
 use Rattle.hypermap.specs.Laws.{Reaches, JoinOrCutLaw}
-use Rattle.hypermap.proofs.Basics.Bools.{by_cases, clash, refuted}
-use Rattle.hypermap.proofs.Basics.Lists.{Mem}
 use Rattle.hypermap.proofs.Permutations.Reaching.{Permutation, reach_back}
 use Rattle.hypermap.proofs.Permutations.Splicing.{after, after_permutation, joined, parted}
 use Rattle.hypermap.proofs.Permutations.Joining.{changed_at}

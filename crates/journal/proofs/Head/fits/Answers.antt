@@ -1,7 +1,7 @@
 use Rattle.std.proofs.Common.{rules, tests}
 use Rattle.std.proofs.lemmas.Iterator.{YieldsList-from_slice}
 use Rattle.std.proofs.lemmas.Iterator.Search.{all_from_yields_List}
-use Rattle.rings.proofs.Tests.{words_all}
+use Rattle.lists.proofs.Ranges.{words_all}
 use Rattle.journal.specs.Heads.{checkpoint_fits, head_fits}
 use Rattle.journal.proofs.Head.fits.Goals as goal
 

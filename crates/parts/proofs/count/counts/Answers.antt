@@ -1,7 +1,7 @@
 use Rattle.std.proofs.Common.{ap, sym, ◌∙◌}
 use Rattle.table.specs.Limits.{max_capacity}
 use Rattle.parts.specs.Counts.{counts_of}
-use Rattle.parts.specs.Inner.{flooded_of}
+use Rattle.parts.specs.MarkedSets.{flooded_of}
 use Rattle.parts.proofs.MarkedSets.{all_set, all_is}
 use Rattle.parts.proofs.count.counts.Goals as goal
 

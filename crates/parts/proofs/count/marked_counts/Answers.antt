@@ -1,6 +1,6 @@
 use Rattle.std.proofs.Common.{◌≡◌, ap, ◌∙◌, ℕ, List, length, w32, to_z-of_z}
 use Rattle.hypermap.specs.Hypermap.{edges, vertices}
-use Rattle.parts.specs.Inner.{MarkedParts, flooded_of, marked_in, Raised}
+use Rattle.parts.specs.MarkedSets.{MarkedParts, flooded_of, marked_in, Raised}
 use Rattle.parts.specs.declared.Flooded.{Flooded}
 use Rattle.parts.proofs.MarkedSets.{marked_hypermap, marked_few, raised_is}
 use Rattle.parts.proofs.Reporting.{Named, counts_few, counts_genus, counts_are}

@@ -1,5 +1,5 @@
 use Rattle.std.proofs.Common.{◌+◌, ◌-◌}
-use Rattle.parts.specs.Inner.{Skipped}
+use Rattle.parts.specs.Marking.{Skipped}
 use Rattle.parts.proofs.marks.skip_marked.Given as goal
 
 abbrev pub invariant-loop-at : goal.invariant-loop-at

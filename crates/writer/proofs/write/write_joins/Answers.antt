@@ -1,10 +1,9 @@
 use mathlib.Core.Path.{◌∙◌}
 use native.Mathlib.Omega.{arith}
 use borrow.Author.Tests.{eq-eqb}
-use Rattle.hypermap.proofs.Basics.Bools.{and_left}
+use Rattle.lists.proofs.Bools.{and_left}
 use Rattle.table.specs.Inner.{dimension_of}
-use Rattle.writer.proofs.Passing.{passing_room, passing_all, all_joins}
-use Rattle.writer.proofs.Passing.{first_test}
+use Rattle.writer.proofs.Passing.{passing_room, passing_all, all_joins, first_test}
 use Rattle.writer.proofs.write.write_joins.Goals as goal
 
 pub write_orbit_joins-at-requires : goal.write_orbit_joins-at-requires

@@ -1,16 +1,16 @@
 -- The place of a number in a list: a member has one, it is the first where the number is listed, and it is below the
--- length exactly for members. Assumes nothing.
+-- length exactly for members.
 use mathlib.Core.Path.{◌≡◌, refl, ap, sym, ◌∙◌}
-use mathlib.Core.Bool.{false}
+use mathlib.Core.Bool.{true, false}
 use mathlib.Core.List.{List, [], ◌∷◌}
 use Prim.Native.Nat.{ℕ, zero, suc, ◌≤◌, ◌<◌}
 use native.Mathlib.Omega.{arith}
 use lib.Dec.{eqb, ltb}
 use lib.ListN.{length, get_or}
 use borrow.Author.Tests.{eqb-true, eqb-false, lt-ltb, le-ltb}
-use Rattle.hypermap.specs.Lists.{among, index_of}
-use Rattle.hypermap.proofs.Basics.Bools.{by_cases, clash}
-use Rattle.hypermap.proofs.Basics.Lists.{Mem, mem_nil, mem_cases}
+use Rattle.lists.specs.Lists.{among, distinct, index_of}
+use Rattle.lists.proofs.Bools.{by_cases, clash}
+use Rattle.lists.proofs.Lists.{Mem, mem_head, mem_tail, mem_nil, mem_cases, distinct_head}
 
 pub index_member : (y : ℕ) (xs : List ℕ) → Mem y xs → (index_of y xs < length xs) × (get_or xs (index_of y xs) 0 ≡ y)
 unfolding index_of
@@ -46,3 +46,16 @@ index_first y (x ∷ xs) (suc k) h e =
     by_cases (eqb y x)
     (λ t. let z : suc k < 0 = rw t at h in absurd (omega arith))
     (λ t. let z : suc k < suc (index_of y xs) = rw t at h in index_first y xs k (omega arith) e)
+
+pub mem_at : (xs : List ℕ) (k : ℕ) → k < length xs → Mem (get_or xs k 0) xs
+mem_at [] k h = absurd (omega arith)
+mem_at (x ∷ xs) zero h = mem_head x xs
+mem_at (x ∷ xs) (suc k) h = mem_tail (get_or xs k 0) x xs (mem_at xs k (omega arith))
+
+pub not_again : (x : ℕ) (xs : List ℕ) → distinct (x ∷ xs) ≡ true → (k : ℕ) → k < length xs → get_or xs k 0 ≡ x → ⊥
+not_again x xs d k h e = clash (rw e at (mem_at xs k h)) (distinct_head x xs d)
+
+pub any_default : (xs : List ℕ) (i d e : ℕ) → i < length xs → get_or xs i d ≡ get_or xs i e
+any_default [] i d e h = absurd (omega arith)
+any_default (x ∷ xs) zero d e h = refl
+any_default (x ∷ xs) (suc i) d e h = any_default xs i d e (omega arith)
