@@ -24,7 +24,7 @@ use Rattle.journal.specs.Entries.{Journal, Entry, entry_of, command_in, entry_at
 use Rattle.journal.specs.Heads.{has_room, room_refusal}
 use Rattle.journal.specs.Journaling.{changes_in, Recorded, journaled_refusal, journaled_on, journal_rule}
 use Rattle.journal.specs.Undoing.{undo_refusal, undo_on, undo_rule, latest_first, undoing}
-use Rattle.journal.proofs.EntryWords.{command_is_change, command_read_back, entry_length, entry_read_back, other_entry}
+use Rattle.journal.proofs.EntryWords.{command_kept, entry_length, entry_read_back, other_entry}
 use Rattle.journal.proofs.EntryWords.{entries_length}
 use Rattle.journal.proofs.Room.{room_known, room_from}
 use Rattle.journal.proofs.Undoings.{undo_passed, latest_length}
@@ -35,7 +35,7 @@ undo_own :
     (undo_refusal (command_on w c) (entry_of c) ≡ 0) × (undo_on (command_on w c) (entry_of c) ≡ w)
 unfolding undo_refusal unless
 undo_own w s z c e =
-    let o = opposite_law w s z c e in rw (command_read_back c) (rw (command_is_change c, eq-eqb _ _ o.0), o.1)
+    let o = opposite_law w s z c e in let r = command_kept c in rw r.1 (rw (r.0, eq-eqb _ _ o.0), o.1)
 
 -- THE ENTRIES undone
 same_entries :

@@ -14,23 +14,14 @@ use Rattle.table.specs.Commands.{Command, puts, takes_out, joins, cuts}
 use Rattle.journal.specs.Entries.{Journal, Entry, entry_of, is_change, command_in, entry_at, with_entry, with_entries}
 
 -- A COMMAND'S ENTRY
-pub command_is_change : (c : Command) → is_change (entry_of c) ≡ true
-unfolding is_change
-command_is_change (puts x) = refl
-command_is_change (takes_out x) = refl
-command_is_change (joins edge a b) = refl
-command_is_change (joins vertex a b) = refl
-command_is_change (cuts edge a b) = refl
-command_is_change (cuts vertex a b) = refl
-
-pub command_read_back : (c : Command) → command_in (entry_of c) ≡ c
-unfolding command_in
-command_read_back (puts x) = refl
-command_read_back (takes_out x) = refl
-command_read_back (joins edge a b) = refl
-command_read_back (joins vertex a b) = refl
-command_read_back (cuts edge a b) = refl
-command_read_back (cuts vertex a b) = refl
+pub command_kept : (c : Command) → (is_change (entry_of c) ≡ true) × (command_in (entry_of c) ≡ c)
+unfolding is_change command_in
+command_kept (puts x) = (refl, refl)
+command_kept (takes_out x) = (refl, refl)
+command_kept (joins edge a b) = (refl, refl)
+command_kept (joins vertex a b) = (refl, refl)
+command_kept (cuts edge a b) = (refl, refl)
+command_kept (cuts vertex a b) = (refl, refl)
 
 -- ONE ENTRY WRITTEN
 module _ (j : Journal) (i : ℕ) (e : Entry) where

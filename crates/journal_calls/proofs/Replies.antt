@@ -1,6 +1,6 @@
 -- What each call answers and leaves: refused by the table or the head, or by what the inner functions answer.
 use mathlib.Core.Path.{◌≡◌, refl, ap, sym, ◌∙◌}
-use mathlib.Core.Bool.{true, not, ◌&&◌}
+use mathlib.Core.Bool.{true, cond, not, ◌&&◌}
 use mathlib.Core.Logic.{◌≢◌}
 use mathlib.Core.List.{List}
 use Prim.Native.Nat.{ℕ, ◌-◌, ◌≤◌}
@@ -16,6 +16,7 @@ use Rattle.table.specs.Layout.{Table}
 use Rattle.table.specs.Commands.{leaves}
 use Rattle.table.proofs.Stages.{passed, fitting, refused_first, refused}
 use Rattle.tape.specs.Steps.{TapeCommand}
+use Rattle.table.specs.Runs.{stopped}
 use Rattle.tape.specs.Runs.{tape_run, told_of}
 use Rattle.tape.specs.declared.Run.{Run}
 use Rattle.tape.specs.declared.Stopped.{Stopped}
@@ -104,28 +105,28 @@ module _ (s : State) (c : TapeCommand) where
 abbrev GivesRun : Reply → Run → State → Type 0
 GivesRun r n t = record { value : n ≡ told_of r; state : t ≡ r.state }
 
-module _ (s : State) (bs : List ℕ) where
-  unplayed :
-      (x : Result ℕ Stopped) (d : Refusal) → StoppedAtOnce x d → number d ≡ journal_play_refusal s bs →
-      GivesRun (play_reply s bs) (run_reply x) s
-  unfolding play_reply
-  unplayed x d q e =
-      rw (stopped_reply x d q, ne_eqb (journal_play_refusal s bs) 0 (λ z. number_positive d (e ∙ z)))
-      (record { value = ap (λ k. record { number = k; accepted = 0 }) e; state = refl })
+-- one that is refused before its first command or entry
+unbegun :
+    (n : ℕ) (r : Reply) (s : State) (x : Result ℕ Stopped) (d : Refusal) → StoppedAtOnce x d → number d ≡ n →
+    GivesRun (cond (eqb n 0) r (stopped n s)) (run_reply x) s
+unbegun n r s x d q e =
+    rw (stopped_reply x d q, ne_eqb n 0 (λ z. number_positive d (e ∙ z)))
+    (record { value = ap (λ k. record { number = k; accepted = 0 }) e; state = refl })
 
+module _ (s : State) (bs : List ℕ) where
   pub play_long :
       (x : Result ℕ Stopped) (d : Refusal) → StoppedAtOnce x d → number d ≡ tape_refusal bs →
       GivesRun (play_reply s bs) (run_reply x) s
-  unfolding journal_play_refusal
+  unfolding play_reply journal_play_refusal
   play_long x d q e =
-      unplayed x d q (refused_first (tape_refusal bs) (state_refusal s) (number d) e (number_positive d))
+      unbegun _ _ s x d q (refused_first (tape_refusal bs) (state_refusal s) (number d) e (number_positive d))
 
   module _ (h : 0 ≡ tape_refusal bs) where
     pub play_bent :
         (x : Result ℕ Stopped) (d : Refusal) → StoppedAtOnce x d → number d ≡ state_refusal s →
         GivesRun (play_reply s bs) (run_reply x) s
-    unfolding journal_play_refusal
-    play_bent x d q e = unplayed x d q (goes_on (tape_refusal bs) (state_refusal s) (number d) h e)
+    unfolding play_reply journal_play_refusal
+    play_bent x d q e = unbegun _ _ s x d q (goes_on (tape_refusal bs) (state_refusal s) (number d) h e)
 
     pub played :
         0 ≡ state_refusal s → (r : Run) → r ≡ told_of (tape_run journal_rule (recorded_in s) bs) → (t : Recorded) →
@@ -155,20 +156,12 @@ module _ (j : Journal) (h : Head) (c : ℕ) (w : Table) where
 
 -- GOING BACK
 module _ (s : State) (c : ℕ) where
-  stays :
-      (x : Result ℕ Stopped) (d : Refusal) → StoppedAtOnce x d → number d ≡ back_call_refusal s c →
-      GivesRun (back_reply s c) (run_reply x) s
-  unfolding back_reply
-  stays x d q e =
-      rw (stopped_reply x d q, ne_eqb (back_call_refusal s c) 0 (λ z. number_positive d (e ∙ z)))
-      (record { value = ap (λ i. record { number = i; accepted = 0 }) e; state = refl })
-
   pub back_bent :
       (x : Result ℕ Stopped) (d : Refusal) → StoppedAtOnce x d → number d ≡ state_refusal s →
       GivesRun (back_reply s c) (run_reply x) s
-  unfolding back_call_refusal
+  unfolding back_reply back_call_refusal
   back_bent x d q e =
-      stays x d q (refused_first (state_refusal s) (back_refusal s.head c) (number d) e (number_positive d))
+      unbegun _ _ s x d q (refused_first (state_refusal s) (back_refusal s.head c) (number d) e (number_positive d))
 
   module _ (z : 0 ≡ state_refusal s) where
     judged_back : back_call_refusal s c ≡ back_refusal s.head c
@@ -179,7 +172,8 @@ module _ (s : State) (c : ℕ) where
     pub back_none :
         (r : Option ℕ) → CheckpointRead s.head c r → (d : Refusal) → Err d ≡ ok_or r NoMark → (x : Result ℕ Stopped) →
         StoppedAtOnce x d → GivesRun (back_reply s c) (run_reply x) s
-    back_none None f d e x q = stays x d q (ap number_in e ∙ sym (judged_back ∙ f))
+    unfolding back_reply
+    back_none None f d e x q = unbegun _ _ s x d q (ap number_in e ∙ sym (judged_back ∙ f))
     back_none (Some n) f d e x q = absurd (number_positive d (ap number_in e))
 
     module _

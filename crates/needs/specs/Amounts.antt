@@ -2,7 +2,7 @@
 -- 1.
 use Rattle.std.specs.Prelude.{cond, List, [], ◌∷◌, ◌++◌, ℕ, ◌+◌, ◌*◌, ◌-◌, ltb, eqb, length}
 use Rattle.table.specs.Limits.{words_per_change}
-use Rattle.table.specs.Commands.{puts, takes_out, joins, cuts, named}
+use Rattle.table.specs.Commands.{puts, takes_out, named}
 use Rattle.rings.specs.Rings.{links_of}
 use Rattle.tape.specs.Steps.{TapeCommand, changes, reports, cuts_ring}
 use Rattle.tape.specs.Tapes.{Contents}
@@ -29,19 +29,11 @@ greatest (x ∷ xs) = larger x (greatest xs)
 -- the rest reaches by one and a take-out lowers it, though not below the 0 of no command; PeakLaw says it of beginnings
 abbrev pub puts_by : TapeCommand → ℕ
 puts_by (changes (puts x)) = 1
-puts_by (changes (takes_out x)) = 0
-puts_by (changes (joins k a b)) = 0
-puts_by (changes (cuts k a b)) = 0
-puts_by reports = 0
-puts_by (cuts_ring ws) = 0
+puts_by c = 0
 
 abbrev pub take_outs_by : TapeCommand → ℕ
-take_outs_by (changes (puts x)) = 0
 take_outs_by (changes (takes_out x)) = 1
-take_outs_by (changes (joins k a b)) = 0
-take_outs_by (changes (cuts k a b)) = 0
-take_outs_by reports = 0
-take_outs_by (cuts_ring ws) = 0
+take_outs_by c = 0
 
 unfoldable pub peak_of : List TapeCommand → ℕ
 peak_of [] = 0

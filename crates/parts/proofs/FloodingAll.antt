@@ -24,7 +24,7 @@ use Rattle.parts.proofs.Counting.{Summing, summing_none, summing_yes, summing_no
 use Rattle.parts.proofs.Marking.{fresh_not, Sweep, Pass, Passed, passed_none, is_first, passed_fresh, passed_other}
 use Rattle.parts.proofs.Marking.{passed_count, passed_inside}
 use Rattle.parts.proofs.LeastMarks.{holds_all}
-use Rattle.parts.proofs.Flooding.{component_parts}
+use Rattle.parts.proofs.ComponentDarts.{component_parts}
 use Rattle.parts.proofs.Lifting.{lifts_add_up}
 
 abbrev pub all_sweep : Table → Sweep

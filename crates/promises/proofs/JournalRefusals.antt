@@ -27,6 +27,7 @@ use Rattle.promises.specs.Journals.{journal_refusals}
 use Rattle.promises.proofs.RefusalNumbers.{One, none, unless_one, or_else_one, table_one, widen, rest_one, table_first}
 use Rattle.promises.proofs.RefusalNumbers.{ring_rest, step_one, contents_one, fold_one}
 
+-- NUMBERS. The plain call's, and then the journal's
 module _ {n : ℕ} (ns ms : List ℕ) where
   first : One n ns → One n (ns ++ ms)
   first f = record { one = λ z. mem_first n ns ms (f.one z) }

@@ -23,6 +23,7 @@ use Rattle.parts.specs.Marking.{mark_at, HasMark, PartMarked}
 use Rattle.parts.proofs.Walking.{OrbitMarked, orbit_marked}
 use Rattle.rings.specs.Inner.{Present, firsts_apart, FirstsTell, FirstsMarked}
 
+-- TESTS OF ALL
 all_true : (p : DoubleLink → Bool) → ((l : DoubleLink) → p l ≡ true) → (ls : List DoubleLink) → all p ls ≡ true
 unfolding all
 all_true p h [] = refl

@@ -6,7 +6,7 @@ use Rattle.table.specs.Layout.{hypermap_of}
 use Rattle.table.proofs.Holding.{mem_present, table_hypermap}
 use Rattle.parts.specs.Counts.{lifts, counts_of}
 use Rattle.parts.specs.MarkedSets.{flooded_of}
-use Rattle.parts.proofs.Flooding.{unmarked_zeros}
+use Rattle.parts.proofs.FloodEnds.{unmarked_zeros}
 use Rattle.parts.proofs.MarkedSets.{component_set, component_is}
 use Rattle.parts.proofs.count.component_counts.Goals as goal
 

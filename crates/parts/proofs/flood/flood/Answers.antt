@@ -1,6 +1,7 @@
 use Rattle.std.proofs.Common.{sym, ◌∙◌, arith}
-use Rattle.parts.proofs.Flooding.{first_asks, first_done, head_mark, head_old, head_asks, head_new, count_few}
-use Rattle.parts.proofs.Flooding.{flooded_all}
+use Rattle.parts.proofs.Flooding.{first_asks, first_done, head_mark, head_old, head_asks, head_new}
+use Rattle.parts.proofs.FloodEnds.{count_few}
+use Rattle.parts.proofs.FloodEnds.{flooded_all}
 use Rattle.parts.proofs.flood.flood.Goals as goal
 use Rattle.parts.proofs.flood.flood.Goals.{then-mark_of-eq0, else-mark_of-eq0}
 

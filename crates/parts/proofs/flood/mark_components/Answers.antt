@@ -2,7 +2,7 @@ use Rattle.std.proofs.Common.{sym, arith}
 use Rattle.table.proofs.Holding.{low}
 use Rattle.parts.proofs.Marking.{fresh_marking, fresh_part, passed_other}
 use Rattle.parts.proofs.LeastMarks.{least_pass, least_on, least_all}
-use Rattle.parts.proofs.Flooding.{component_parts}
+use Rattle.parts.proofs.ComponentDarts.{component_parts}
 use Rattle.parts.proofs.flood.mark_components.Goals as goal
 use Rattle.parts.proofs.flood.mark_components.Goals.{then-is_fresh, else-is_fresh}
 

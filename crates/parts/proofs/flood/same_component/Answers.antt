@@ -1,6 +1,6 @@
 use Rattle.std.proofs.Common.{arith}
 use Rattle.table.specs.Limits.{max_capacity}
-use Rattle.parts.proofs.Flooding.{unmarked_zeros, flooded_test}
+use Rattle.parts.proofs.FloodEnds.{unmarked_zeros, flooded_test}
 use Rattle.parts.proofs.flood.same_component.Goals as goal
 
 pub flood-requires : goal.flood-requires
