@@ -8,3 +8,4 @@ pub mod Relations
 pub mod Ranges
 pub mod Rising
 pub mod Keeping
+pub mod Injections

@@ -10,9 +10,9 @@ use lib.Dec.{eqb}
 use lib.ListN.{length, replicate, length-replicate}
 use borrow.Author.Tests.{eqb-true, eq-eqb, ne_eqb}
 use Rattle.std.proofs.lemmas.List.{drop_more, drop_all}
-use Rattle.lists.proofs.Bools.{four_and, by_cases, bool_ext, clash, refuted}
+use Rattle.lists.proofs.Bools.{by_cases, bool_ext, clash, refuted}
 use Rattle.lists.specs.Lists.{all, Each}
-use Rattle.lists.proofs.Lists.{Mem, zero_at}
+use Rattle.lists.proofs.Lists.{Mem, zero_at, all_true, all_both}
 use Rattle.hypermap.specs.Hypermap.{Kind, orbit_of, same_orbit}
 use Rattle.hypermap.specs.Ring.{DoubleLink, no_two}
 use Rattle.hypermap.specs.Laws.{Equivalence}
@@ -22,21 +22,6 @@ use Rattle.table.proofs.Walking.{same_orbits}
 use Rattle.parts.specs.Marking.{mark_at, HasMark, PartMarked}
 use Rattle.parts.proofs.Walking.{OrbitMarked, orbit_marked}
 use Rattle.rings.specs.Inner.{Present, firsts_apart, FirstsTell, FirstsMarked}
-
--- TESTS OF ALL
-all_true : (p : DoubleLink → Bool) → ((l : DoubleLink) → p l ≡ true) → (ls : List DoubleLink) → all p ls ≡ true
-unfolding all
-all_true p h [] = refl
-all_true p h (l ∷ ls) = rw (h l) (all_true p h ls)
-
--- two tests of all make one
-all_both :
-    (w : Table) (p q r : DoubleLink → Bool) → ((l : DoubleLink) → Present w l → (p l && q l) ≡ r l) →
-    (ls : List DoubleLink) → Each (Present w) ls → (all p ls && all q ls) ≡ all r ls
-unfolding all
-all_both w p q r h [] e = refl
-all_both w p q r h (l ∷ ls) e =
-    four_and (p l) (all p ls) (q l) (all q ls) ∙ cc (h l e.0, all_both w p q r h ls e.1)
 
 -- ONE FIRST DART
 abbrev no_mark : (marks : List ℕ) → DoubleLink → Bool
@@ -122,7 +107,7 @@ module _ (w : Table) (c : Kind) (s : holds_hypermap w ≡ true) where
         let n : DoubleLink → Bool = λ l. not (same x l.first) in
         rw (eq-eqb (mark_at m x) 0 f)
         (sym (and_assoc (all (no_mark m) ls) (all n ls) (firsts_apart w c ls)) ∙
-        ap (λ b. b && firsts_apart w c ls) (all_both w (no_mark m) n (no_mark v) no_mark_now ls e))
+        ap (λ b. b && firsts_apart w c ls) (all_both (Present w) (no_mark m) n (no_mark v) no_mark_now ls e))
 
   -- where each first dart has a mark, the marks tell
   tells :
