@@ -34,7 +34,7 @@
  *
  * The stack that a call takes is measured, not proved: LOTSKADI_CALL_STACK bytes suffice. On x86-64, with a full table
  * and the longest ring and tape, lotskadi_screen takes the most, 49,447 bytes, since its table lies there too;
- * lotskadi_report takes 16,599, and every other call takes less. */
+ * lotskadi_report takes 16,615, and every other call takes less. */
 #ifndef LOTSKADI_H
 #define LOTSKADI_H
 

@@ -125,12 +125,16 @@ pub fn run_tape(
     ensures state { recorded table.new journal.new used.new ≡
         (tape_run journal_rule (recorded table.old journal.old used.old) tape.now).state }
 {
-    play::play(
+    // Counted in a local: at the caller's place the count would be read from memory and written back at every command.
+    let mut count = *used;
+    let answer = play::play(
         &mut JournaledTable {
             table,
             journal,
-            used,
+            used: &mut count,
         },
         tape,
-    )
+    );
+    *used = count;
+    answer
 }

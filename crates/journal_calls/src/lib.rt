@@ -6,7 +6,8 @@
 
 ghost use Rattle.std.specs.Prelude.{◌≡◌};
 ghost use Rattle.table.specs.Layout.{Table};
-ghost use Rattle.table.specs.Inner.{command_for};
+ghost use Rattle.table.specs.Commands.{puts, takes_out, joins, cuts};
+ghost use Rattle.table.specs.Inner.{command_for, dimension_of};
 ghost use Rattle.table.specs.Replies.{reply};
 ghost use Rattle.tape.specs.Steps.{changes, cuts_ring};
 ghost use Rattle.tape.specs.Runs.{told_of};
@@ -21,13 +22,13 @@ use journal::machine::{JournaledTable, run_tape};
 use journal::undo;
 use judging::judge_state;
 use soundness::judge_tape;
-use table::Change;
 use table::refusals::Refusal;
+use table::{Change, Dimension};
 use tape::Stopped;
 use tape::machine::Machine;
 
-// CHANGES: one call makes them all. The table, the journal and the head are lent apart by C and by callers in Rattle;
-// `JournaledTable` has them together inside.
+// CHANGES: one call makes them all; the others name one change each, as the calls of `kernel` do. The table, the
+// journal and the head are lent apart by C and by callers in Rattle; `JournaledTable` has them together inside.
 
 #[tactic(auto, using(crate::proofs::Replies::performing))]
 pub fn make_change(
@@ -48,6 +49,73 @@ pub fn make_change(
         used: &mut head.length,
     };
     machine.perform(change)
+}
+
+// Dart x appears, an edge and a vertex by itself.
+pub fn put(table: &mut [u16], journal: &mut [u16], head: &mut Head, x: u32) -> Result<(), Refusal>
+    ensures value { reply result ≡
+        (perform_reply (state_of table.old journal.old head.old) (changes (puts x))).number }
+    ensures state { state_of table.new journal.new head.new ≡
+        (perform_reply (state_of table.old journal.old head.old) (changes (puts x))).state }
+{
+    make_change(table, journal, head, Change::Put(x))
+}
+
+// Dart x disappears, which is an edge and a vertex by itself.
+pub fn take_out(
+    table: &mut [u16],
+    journal: &mut [u16],
+    head: &mut Head,
+    x: u32,
+) -> Result<(), Refusal>
+    ensures value { reply result ≡
+        (perform_reply (state_of table.old journal.old head.old) (changes (takes_out x))).number }
+    ensures state { state_of table.new journal.new head.new ≡
+        (perform_reply (state_of table.old journal.old head.old) (changes (takes_out x))).state }
+{
+    make_change(table, journal, head, Change::TakeOut(x))
+}
+
+// The edges, or the vertices, of a and b become one.
+pub fn join(
+    table: &mut [u16],
+    journal: &mut [u16],
+    head: &mut Head,
+    d: Dimension,
+    a: u32,
+    b: u32,
+) -> Result<(), Refusal>
+    ensures value { reply result ≡
+        (perform_reply (state_of table.old journal.old head.old) (changes (joins (dimension_of d) a b))).number }
+    ensures state { state_of table.new journal.new head.new ≡
+        (perform_reply (state_of table.old journal.old head.old) (changes (joins (dimension_of d) a b))).state }
+{
+    // A match: a change has a variant for each dimension.
+    match d {
+        Dimension::Edge => make_change(table, journal, head, Change::EdgeJoin(a, b)),
+        Dimension::Vertex => make_change(table, journal, head, Change::VertexJoin(a, b)),
+    }
+}
+
+// The edge, or the vertex, of a and b becomes two, one with a and one with b.
+pub fn cut(
+    table: &mut [u16],
+    journal: &mut [u16],
+    head: &mut Head,
+    d: Dimension,
+    a: u32,
+    b: u32,
+) -> Result<(), Refusal>
+    ensures value { reply result ≡
+        (perform_reply (state_of table.old journal.old head.old) (changes (cuts (dimension_of d) a b))).number }
+    ensures state { state_of table.new journal.new head.new ≡
+        (perform_reply (state_of table.old journal.old head.old) (changes (cuts (dimension_of d) a b))).state }
+{
+    // A match: a change has a variant for each dimension.
+    match d {
+        Dimension::Edge => make_change(table, journal, head, Change::EdgeCut(a, b)),
+        Dimension::Vertex => make_change(table, journal, head, Change::VertexCut(a, b)),
+    }
 }
 
 // A RING, lent as a list of words. The entries of all its cuts fit, or nothing changes. Like `make_change`, but for the

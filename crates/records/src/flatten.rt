@@ -18,14 +18,14 @@ fn fit(n: usize) -> usize
     if MAX_DOUBLE_LINKS < n { 0 } else { n }
 }
 
-// The pairs of the double-links that fit.
+// The pairs of the double-links that fit, in place of what the list held. It is lent, since it is fixed memory for the
+// longest ring: as an answer it would be copied whole.
 #[tactic(auto, using(crate::proofs::Words::copying))]
-pub fn copy_pairs(ring: &[DoubleLink]) -> ArrayVec<[u16; 2], MAX_DOUBLE_LINKS>
-    ensures { flat_map (λ p. p) result.items ≡ words_of (take (fitted (length ring.now)) ring.now) }
+pub fn copy_pairs(ring: &[DoubleLink], pairs: &mut ArrayVec<[u16; 2], MAX_DOUBLE_LINKS>)
+    ensures { flat_map (λ p. p) pairs.new.items ≡ words_of (take (fitted (length ring.now)) ring.now) }
 {
-    let mut pairs = ArrayVec::new(); // fixed memory: no heap
+    pairs.clear();
     for link in &ring[..fit(ring.len())] {
         pairs.push([link.first, link.second]);
     }
-    pairs
 }

@@ -11,6 +11,7 @@ ghost use Rattle.records.specs.Records.{words_of};
 
 mod flatten;
 
+use arrayvec::ArrayVec;
 use flatten::copy_pairs;
 use journal_calls::Head;
 use kernel::{Refusal, ring_cut};
@@ -28,7 +29,9 @@ pub fn ring_cut_records(table: &mut [u16], ring: &[DoubleLink]) -> Result<(), Re
     ensures value { reply result ≡ ring_call_refusal table.old (words_of ring.now) }
     ensures table { table.new ≡ ring_call_leaves table.old (words_of ring.now) }
 {
-    ring_cut(table, copy_pairs(ring).as_flattened())
+    let mut pairs = ArrayVec::new(); // fixed memory: no heap
+    copy_pairs(ring, &mut pairs);
+    ring_cut(table, pairs.as_flattened())
 }
 
 // The same with a journal: what `journal_calls::ring_cut` answers and leaves for its words. A function for both that
@@ -45,5 +48,7 @@ pub fn journal_ring_cut_records(
     ensures state { state_of table.new journal.new head.new ≡
         (perform_reply (state_of table.old journal.old head.old) (cuts_ring (words_of ring.now))).state }
 {
-    journal_calls::ring_cut(table, journal, head, copy_pairs(ring).as_flattened())
+    let mut pairs = ArrayVec::new(); // fixed memory: no heap
+    copy_pairs(ring, &mut pairs);
+    journal_calls::ring_cut(table, journal, head, pairs.as_flattened())
 }

@@ -205,6 +205,10 @@ module _ (w : Table) (c : Kind) (ls : List DoubleLink) where
         kept_here : (u : List ℕ) → Kept w v u → mark_at u l.first ≡ l.first
         kept_here u g = g _ here (omega (arith, now, low w _ here)) ∙ now
 
+  -- once two lie in one orbit, the rest is not asked
+  pub firsts_known : (rs : List DoubleLink) (m : List ℕ) → Firsts w c ls rs m false → false ≡ firsts_apart w c ls
+  firsts_known rs m i = sym i.answer
+
   module _
       (m : List ℕ) (b : Bool) (i : Firsts w c ls [] m b) (s : holds_hypermap w ≡ true) (t : Each (Present w) ls) where
     pub firsts_answer : b ≡ firsts_apart w c ls
@@ -225,6 +229,7 @@ pub ruleset firsts_pass = (
   firsts_mark,
   firsts_shared,
   firsts_on,
+  firsts_known,
   firsts_answer,
   firsts_tell,
   firsts_own,

@@ -29,3 +29,22 @@ pub fn mark_firsts(table: &[u16], orbit: Orbit, links: &[[u16; 2]], marks: &mut 
     }
     are_apart
 }
+
+// Whether no two first darts lie in one orbit, which is known at the first that has a mark already. So the marks are
+// whole only where no two do. `mark_firsts` goes on there, since its marks are read in either case.
+#[tactic(auto, using(crate::proofs::MarkingFirsts::firsts_pass))]
+pub fn firsts_apart(table: &[u16], orbit: Orbit, links: &[[u16; 2]], marks: &mut [u16]) -> bool
+    requires { LinksMarking table.now (links_in links.now) marks.old }
+    ensures value { result ≡ firsts_apart table.now (kind_of orbit) (links_in links.now) }
+    ensures marks { result ≡ true →
+        FirstsMarked table.now (kind_of orbit) (links_in links.now) marks.new }
+{
+    marks.fill(0);
+    for &[first, _] in links {
+        if marks::mark_of(marks, first) != 0 {
+            return false;
+        }
+        marks::mark_orbit(table, orbit, first, first, marks);
+    }
+    true
+}
