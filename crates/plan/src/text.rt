@@ -52,7 +52,8 @@ pub fn write_accepted<W: Write>(
     ensures { OnOk result (Appends (W.contents lines.old) (W.contents lines.new)
         (instruction_line machine.now.table.now instruction)) }
 {
-    // A match: only a report has a line of its own. The other line is no `writeln!`, which takes more instructions.
+    // A match: only a report has a line of its own. The other line is written as bytes: `writeln!` takes more
+    // instructions.
     match instruction {
         Instruction::Report => write_report(lines, counts(machine)),
         Instruction::Change(_) | Instruction::RingCut(_) => lines.write_all(b"ok\n"),

@@ -8,13 +8,24 @@ ghost use Rattle.rings.specs.Inner.{links_in, LinksMarking, firsts_apart, Firsts
 use parts::marks;
 use table::Orbit;
 
+// What a pass does at a first dart that shares its orbit with an earlier one: it goes on to the others, or stops.
+// Bools, like `NEXT` and `BACK` of `table::words`.
+pub const GOES_ON: bool = true;
+
+pub const STOPS: bool = false;
+
 // Marks the orbits of the first darts. Whether no two of them lie in one: a first dart that has a mark already lies in
-// the orbit of an earlier one.
+// the orbit of an earlier one. A pass that has stopped leaves marks that nobody may read.
 #[tactic(auto, using(crate::proofs::MarkingFirsts::firsts_pass))]
-pub fn mark_firsts(table: &[u16], orbit: Orbit, links: &[[u16; 2]], marks: &mut [u16]) -> bool
+pub fn mark_firsts<const PAST: bool>(
+    table: &[u16],
+    orbit: Orbit,
+    links: &[[u16; 2]],
+    marks: &mut [u16],
+) -> bool
     requires { LinksMarking table.now (links_in links.now) marks.old }
     ensures value { result ≡ firsts_apart table.now (kind_of orbit) (links_in links.now) }
-    ensures tell { FirstsTell table.now (kind_of orbit) (links_in links.now) marks.new }
+    ensures tell { PAST ≡ true → FirstsTell table.now (kind_of orbit) (links_in links.now) marks.new }
     ensures marks { result ≡ true →
         FirstsMarked table.now (kind_of orbit) (links_in links.now) marks.new }
 {
@@ -23,28 +34,11 @@ pub fn mark_firsts(table: &[u16], orbit: Orbit, links: &[[u16; 2]], marks: &mut 
     for &[first, _] in links {
         if marks::mark_of(marks, first) == 0 {
             marks::mark_orbit(table, orbit, first, first, marks);
-        } else {
+        } else if PAST {
             are_apart = false;
+        } else {
+            return false;
         }
     }
     are_apart
-}
-
-// Whether no two first darts lie in one orbit, which is known at the first that has a mark already. So the marks are
-// whole only where no two do. `mark_firsts` goes on there, since its marks are read in either case.
-#[tactic(auto, using(crate::proofs::MarkingFirsts::firsts_pass))]
-pub fn firsts_apart(table: &[u16], orbit: Orbit, links: &[[u16; 2]], marks: &mut [u16]) -> bool
-    requires { LinksMarking table.now (links_in links.now) marks.old }
-    ensures value { result ≡ firsts_apart table.now (kind_of orbit) (links_in links.now) }
-    ensures marks { result ≡ true →
-        FirstsMarked table.now (kind_of orbit) (links_in links.now) marks.new }
-{
-    marks.fill(0);
-    for &[first, _] in links {
-        if marks::mark_of(marks, first) != 0 {
-            return false;
-        }
-        marks::mark_orbit(table, orbit, first, first, marks);
-    }
-    true
 }

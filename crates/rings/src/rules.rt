@@ -6,7 +6,7 @@ ghost use Rattle.table.specs.Replies.{reply};
 ghost use Rattle.rings.specs.Rings.{condition_refusal, ring_refusal};
 ghost use Rattle.rings.specs.Inner.{links_in, LinksMarking};
 
-use crate::first_darts::{firsts_apart, mark_firsts};
+use crate::first_darts::{GOES_ON, STOPS, mark_firsts};
 use crate::list;
 use crate::path::path_closes;
 use crate::together::pairs_together;
@@ -20,7 +20,7 @@ fn judge_conditions(table: &[u16], links: &[[u16; 2]], marks: &mut [u16]) -> Res
     requires { LinksMarking table.now (links_in links.now) marks.old }
     ensures { reply result ≡ condition_refusal (hypermap_of table.now) (links_in links.now) }
 {
-    let are_edges_apart = mark_firsts(table, Orbit::Edge, links, marks);
+    let are_edges_apart = mark_firsts::<GOES_ON>(table, Orbit::Edge, links, marks);
     if !pairs_together(table, links, marks) {
         return Err(Refusal::Apart);
     }
@@ -30,7 +30,7 @@ fn judge_conditions(table: &[u16], links: &[[u16; 2]], marks: &mut [u16]) -> Res
     if !are_edges_apart {
         return Err(Refusal::TieTwice);
     }
-    if !firsts_apart(table, Orbit::Face, links, marks) {
+    if !mark_firsts::<STOPS>(table, Orbit::Face, links, marks) {
         return Err(Refusal::GapTwice);
     }
     if !path_closes(table, links, marks) {
